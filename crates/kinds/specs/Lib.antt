@@ -1,0 +1,4 @@
+pub mod Bytes
+pub mod Decimal
+pub mod Kind
+pub mod Joined

@@ -1,0 +1,3 @@
+pub mod Evaluation
+pub mod Edges
+pub mod Worked

@@ -1,0 +1,88 @@
+-- Worked examples beside the table of edges, for what it does not touch.
+-- Assumes nothing.
+use mathlib.Core.Path.{_≡_, refl}
+use mathlib.Core.List.{List, [], _∷_, _++_}
+use mathlib.Core.Option.{some}
+use Prim.Native.Nat.{ℕ}
+use Rattle.kinds.specs.Bytes.{ascii}
+use Rattle.kinds.specs.Kind.{bits, uint, string, Suffix, sized, unsized, Kind}
+use Rattle.model.specs.declared.Call.the-variants as call
+use Rattle.model.specs.Text.{skip, runLength, validLength}
+use Rattle.model.specs.Tree.{elementary, tuple, Field, field, noField, moreFields, Declaration, kindOf}
+use Rattle.model.specs.Parser.{got}
+use Rattle.model.specs.Reading.{parse}
+use Rattle.model.specs.Record.{decode}
+use Rattle.model.specs.Answer.{writes, accepted, refused, outcome, after}
+use Rattle.model.specs.Calls.{readOutput, kindOutput, readKind, canonicalOutput, signatureOutput, nameOutput}
+use Rattle.model.specs.Message.{messageOutput}
+use Rattle.model.proofs.Evaluation.{evaluation}
+
+-- document 01's record of `function f(uint a)`
+abbrev worked : List ℕ
+worked =
+    0x32 ∷ 0 ∷ 0 ∷ 0 ∷ 0x20 ∷ 0 ∷ 2 ∷ 0
+    ∷ 7 ∷ 0 ∷ 0 ∷ 0 ∷ 0x11 ∷ 0 ∷ 0x66
+    ∷ 0x1D ∷ 0 ∷ 0 ∷ 0 ∷ 0x12 ∷ 0
+    ∷ 0x17 ∷ 0 ∷ 0 ∷ 0 ∷ 0x10 ∷ 0 ∷ 0 ∷ 0
+    ∷ 7 ∷ 0 ∷ 0 ∷ 0 ∷ 0x11 ∷ 0 ∷ 0x61
+    ∷ 8 ∷ 0 ∷ 0 ∷ 0 ∷ 2 ∷ 0 ∷ 0 ∷ 1
+    ∷ 6 ∷ 0 ∷ 0 ∷ 0 ∷ 0x12 ∷ 0 ∷ []
+
+record-written : readOutput call.General (ascii "function f(uint a)") ≡ writes worked
+unfolding evaluation
+record-written = refl
+
+record-read : decode worked ≡ some (Declaration.function 2 (ascii "f") (moreFields (field 0 (ascii "a") (elementary (uint (bits 256))) []) noField) noField)
+unfolding evaluation
+record-read = refl
+
+lines-written : (canonicalOutput worked ≡ writes (ascii "f(uint256)")) × (signatureOutput worked ≡ writes (ascii "f(uint256):()")) × (nameOutput worked ≡ writes (ascii "f"))
+unfolding evaluation
+lines-written = (refl, refl, refl)
+
+-- lent one byte too few it leaves them all; lent one too many it leaves the last
+room : (outcome 9 (canonicalOutput worked) ≡ refused 20 0) × (after (1 ∷ 2 ∷ []) (canonicalOutput worked) ≡ 1 ∷ 2 ∷ []) × (outcome 10 (canonicalOutput worked) ≡ accepted 10) × (after (ascii "0123456789X") (canonicalOutput worked) ≡ ascii "f(uint256)X")
+unfolding evaluation
+room = (refl, refl, refl, refl)
+
+-- byte A0 inside a character (U+00E0 is C3 A0) is no blank, and U+00A0 (C2 A0) is one
+inside-character : runLength (ascii "uint" ++ (0xC3 ∷ 0xA0 ∷ ascii " a")) ≡ 6
+unfolding evaluation
+inside-character = refl
+
+no-break-space : (runLength (ascii "uint" ++ (0xC2 ∷ 0xA0 ∷ ascii "a")) ≡ 4) × (skip (ascii "uint" ++ (0xC2 ∷ 0xA0 ∷ ascii "a")) 4 ≡ 6)
+unfolding evaluation
+no-break-space = (refl, refl)
+
+-- an overlong form, a surrogate, what lies above 10FFFF and a character cut short are no UTF-8; their neighbours are
+utf8 : (validLength (0xC1 ∷ 0xBF ∷ []) ≡ 0) × (validLength (0xC2 ∷ 0x80 ∷ []) ≡ 2) × (validLength (0xED ∷ 0xA0 ∷ 0x80 ∷ []) ≡ 0) × (validLength (0xED ∷ 0x9F ∷ 0xBF ∷ []) ≡ 3) × (validLength (0xF4 ∷ 0x90 ∷ 0x80 ∷ 0x80 ∷ []) ≡ 0) × (validLength (0xF4 ∷ 0x8F ∷ 0xBF ∷ 0xBF ∷ []) ≡ 4) × (validLength (0x61 ∷ 0xE2 ∷ 0x82 ∷ []) ≡ 1)
+unfolding evaluation
+utf8 = (refl, refl, refl, refl, refl, refl, refl)
+
+-- `uint[2][]` is an open array of arrays of two
+suffix-order : readKind (ascii "uint[2][]") ≡ got (field 0 [] (elementary (uint (bits 256))) (sized 2 ∷ unsized ∷ [])) 0
+unfolding evaluation
+suffix-order = refl
+
+kind-order : kindOf (field 0 [] (elementary (uint (bits 256))) (sized 2 ∷ unsized ∷ [])) ≡ Kind.array (Kind.array (Kind.elementary (uint (bits 256))) (sized 2)) unsized
+unfolding evaluation
+kind-order = refl
+
+-- a word's error stands before its blanks, a character's behind them
+word-error : (outcome 1000 (readOutput call.General (ascii "function ()")) ≡ refused 6 8) × (outcome 1000 (readOutput call.General (ascii "function f uint")) ≡ refused 2 11)
+unfolding evaluation
+word-error = (refl, refl)
+
+-- `indexed` is a mark in an event's own list, and a name inside its tuple; `memory` is forgotten at `string`, and a name at `uint`
+mark-words : (parse call.General (ascii "event E((bool indexed) indexed)") ≡ got (Declaration.event 0 (ascii "E") (moreFields (field 1 [] (tuple (moreFields (field 0 (ascii "indexed") (elementary Rattle.kinds.specs.Kind.bool) []) noField)) []) noField)) 31) × (parse call.General (ascii "error e(uint memory)") ≡ got (Declaration.error (ascii "e") (moreFields (field 0 (ascii "memory") (elementary (uint (bits 256))) []) noField)) 20) × (parse call.General (ascii "constructor(string memory)") ≡ got (Declaration.constructor 2 (moreFields (field 0 [] (elementary string) []) noField)) 26)
+unfolding evaluation
+mark-words = (refl, refl, refl)
+
+message : messageOutput call.General (ascii "function ()") ≡ writes (ascii "expected identifier at position 8(\"function| ()\")")
+unfolding evaluation
+message = refl
+
+-- ten bytes on each side, `...` at an end that isn't the text's, and escapes
+message-context : messageOutput call.Function (ascii "function transfer(address\tto, \"uint256 amount)") ≡ writes (ascii "expected ) at position 28(\"...address\\tto|, \\\"uint256...\")")
+unfolding evaluation
+message-context = refl

@@ -1,0 +1,11 @@
+pub mod Text
+pub mod Tree
+pub mod KindText
+pub mod Parser
+pub mod Reading
+pub mod Layout
+pub mod Record
+pub mod Line
+pub mod Answer
+pub mod Calls
+pub mod Message

@@ -1,0 +1,52 @@
+// The types of the answers, shared by the definitions and the code. What each case means to the outside is in specs/Answer.antt.
+
+// Why a call refuses. The numbers of document 01 are in specs/Answer.antt.
+pub enum Refusal {
+    Eos,
+    ExpectOpen,
+    ExpectClose,
+    ExpectDeclaration,
+    ExpectKeyword,
+    ExpectIdentifier,
+    ExpectEnd,
+    TooLong,
+    NotUtf8,
+    TooDeep,
+    InvalidBitWidth,
+    InvalidByteLength,
+    Unknown,
+    StartsWithTuple,
+    NotWellFormed,
+    WrongSort,
+    NoRoom,
+}
+
+// What a call answers: the length of what it wrote, or why it refuses and where.
+pub enum Answer {
+    Accepted { length: usize },
+    Refused { refusal: Refusal, position: usize },
+}
+
+// The words that a declaration begins with.
+pub enum Keyword {
+    Function,
+    Constructor,
+    Event,
+    Error,
+}
+
+// The five reading calls.
+pub enum Call {
+    General,
+    Function,
+    Constructor,
+    Event,
+    Error,
+}
+
+// The sorts of list, by the marks that their fields may have.
+pub enum Sort {
+    Plain,
+    Parameter,
+    Event,
+}
