@@ -249,7 +249,7 @@ fn answer(call: &str, s: &str) -> String {
     }
 }
 
-/// Number and position where the original panics.
+/// Number and position where the original panics (the kind call never does).
 fn patched_answer(call: &str, s: &str) -> String {
     use patched::abi as p;
     let e = match call {
@@ -258,16 +258,14 @@ fn patched_answer(call: &str, s: &str) -> String {
         "constructor" => p::ConstructorDescriptor::parse_declaration(s).unwrap_err(),
         "event" => p::EventDescriptor::parse_declaration(s).unwrap_err(),
         "error" => p::ErrorDescriptor::parse_declaration(s).unwrap_err(),
-        other => {
-            eprintln!("the oracle has no answer for the call {other}");
-            std::process::exit(2)
-        }
+        other => panic!("unknown call {other}"),
     };
     let (n, pos) = number(&format!("{e:?}"));
     format!("panic {n} {pos} -")
 }
 
 fn run() {
+    // The original's panics are answers here, not failures: no words about them.
     std::panic::set_hook(Box::new(|_| {}));
     let mut out = BufWriter::new(std::io::stdout().lock());
     for line in std::io::stdin().lock().lines() {
@@ -291,5 +289,8 @@ fn main() {
         .spawn(run)
         .unwrap()
         .join()
-        .unwrap();
+        .unwrap_or_else(|_| {
+            eprintln!("the oracle met a line that it cannot answer");
+            std::process::exit(2)
+        });
 }

@@ -34,11 +34,11 @@ BLANKS = [
 LOOK_ALIKES = [
     *map(chr, [0, 8, 0x0E, 0x1C, 0x1F, 0x7F, 0x84, 0x86, 0x9F, 0xA1, 0xE0, 0x105]),
     *map(chr, [0x167F, 0x1681, 0x180E, 0x1FFF, 0x200B, 0x200D, 0x2027, 0x202A]),
-    *map(chr, [0x202E, 0x2030, 0x205E, 0x2060, 0x2FFF, 0x3001, 0xFEFF, 0x1F000]),
+    *map(chr, [0x202E, 0x2030, 0x205E, 0x2060, 0x3001, 0xFEFF, 0x1F000]),
 ]
 
 
-# --- small helpers --------------------------------------------------------------
+# --- shared pieces ----------------------------------------------------------------
 
 
 def call_of(text):
@@ -73,12 +73,13 @@ def strings(tokens, most):
 
 
 def nested(depth, inside="", suffix=""):
-    """A tuple kind with `depth` brackets around `inside`, each with the suffix."""
+    """Tuples `depth` deep around `inside`, each with the suffix."""
     return "(" * depth + inside + (")" + suffix) * depth
 
 
 def padded(before, pad, after, size=MOST_BYTES):
-    """`before` and `after` with as much of `pad` between that it makes `size` bytes."""
+    """`before`, then `pad` again and again (spaces if it does not fit), then `after`,
+    so that all is `size` bytes long."""
     room = size - len(before.encode()) - len(after.encode())
     count, rest = divmod(room, len(pad.encode()))
     return before + pad * count + " " * rest + after
@@ -101,11 +102,12 @@ def edges():
         "(address payable a)", "(string memory)", "(string calldata a)", "((uin))",
         "(bool,(uint,uin))", "((uint)[2 ])", "((uint)[ ])", "((uint)[ 2])",
         "(" + nested(MOST_TUPLES) + ")",
-    ]  # fmt: skip
+    ]
     for keyword, rest in product(HEADS, rests):
         text = HEADS[keyword] + rest
-        yield from by_both([text, " " + text])
-    yield from by_all(HEADS["function"] + rest for rest in rests[:9])
+        yield from by_both([text])
+        yield keyword, " " + text
+    yield from by_all(HEADS["function"] + rest for rest in rests[:6])
 
 
 def openings():
@@ -119,7 +121,7 @@ def openings():
         names = [
             "$", "_", "$_$9", "a1", "1a", "Ab_C", "é", "aé", "a.b", "a-b", "a b", "-",
             "(", "function", "event", "indexed", "returns", "pure", "constructor",
-        ]  # fmt: skip
+        ]
         yield from by_both(f"{keyword} {name}()" for name in names)
         yield from by_both([f"{keyword}  ()", f"{keyword}\n", f"{keyword}s f()", f"{keyword}()"])
         yield from by_both([f"{keyword}\tf", f"{keyword} f ", f"{keyword} f\n x"])
@@ -148,7 +150,7 @@ def ordinary():
 
 
 def spellings(number):
-    """Every way of writing a number that the Rust takes."""
+    """The ways of writing a number that the Rust takes: leading zeros, `+`, both."""
     return [f"{number}", f"0{number}", f"+{number}", f"+00{number}"]
 
 
@@ -156,7 +158,7 @@ def elementary_kinds():
     """Every elementary kind and width in every spelling."""
     yield from by_kind(PLAIN_KINDS)
     for width in WIDTHS:
-        yield from by_kind("int" + number for number in spellings(width))
+        yield from by_kind([f"int{width}", f"int+0{width}"])
         yield from by_kind("uint" + number for number in spellings(width))
     for length in BYTE_LENGTHS:
         yield from by_kind("bytes" + number for number in spellings(length))
@@ -191,13 +193,13 @@ def array_suffixes():
     lengths += [f"+{largest}", f"000{largest}", f"+000{largest}"]
     bad = [largest + 1, 10 * largest, 2**65, f"+{largest + 1}", "-1", "-0", "+", "++2", " ", " 2"]
     bad += ["2 ", "a", "2a", "0x2", "[", "]", "[2", "2]", "[]", "][", "٢", "é", ",", "1,2"]
-    for stem in ["uint", "bytes3", "string"]:
+    for stem in ["uint", "bytes3"]:
         yield from by_kind(f"{stem}[{length}]" for length in [*lengths, *bad])
     chains = [
         "[]", "[][]", "[2][]", "[][2]", "[2][3]", "[2][][3]", "[][][]", "[+2][03][]",
         "[]x", "[2]x", "[", "]", "[][", "[]]", "[2][", "[2", "2]", "[] ", "[][x]", "[x][]",
         "[2][x][]", "[][ ][2]", "[2[3]", "[2]3]", "()", "[()]",
-    ]  # fmt: skip
+    ]
     stems = [*PLAIN_KINDS, "int8", "uint08", "bytes32", "uint7", "bytes33", "x", ""]
     yield from by_kind(stem + chain for stem in stems for chain in chains[:8])
     yield from by_kind(stem + chain for stem in ["uint", "bytes", "bool", ""] for chain in chains)
@@ -206,7 +208,7 @@ def array_suffixes():
 def short_kinds():
     """Every short text over small alphabets, alone and behind a kind's beginning."""
     yield from by_kind(strings("int[]", 3))
-    yield from by_kind("int" + rest for rest in strings("[]08+", 3))
+    yield from by_kind("int" + rest for rest in strings("[]08+", 2))
     yield from by_kind("bytes" + rest for rest in strings("[]03+", 2))
 
 
@@ -219,8 +221,8 @@ def kinds_in_lists():
         *PLAIN_KINDS, "int08", "uint+8", "bytes+032", "uint[+2]", "bool[007][]", "string[]",
         "function[2]", f"int8[{2**64 - 1}]", f"int8[{2**64}]", "uint7", "bytes0", "uint;",
         "int(", "uint[2", "uint[ 2]", "uint[2 ]", "uint[]a", "bool\u00a0a", "uint\u200b",
-    ]  # fmt: skip
-    lists = ["({0})", "( {0} a )", "({0},{0})", "(bool,{0} b)", "(({0}) t)", "({0} a"]
+    ]
+    lists = ["( {0} a )", "({0},{0})", "(bool,{0})", "(({0}) t)", "({0}"]
     for kind, (place, shape) in product(kinds, enumerate(lists)):
         keyword = list(HEADS)[(place + len(kind)) % len(HEADS)]
         yield "general", HEADS[keyword] + shape.format(kind)
@@ -228,11 +230,11 @@ def kinds_in_lists():
 
 def marks():
     """Mark words where they are marks and where they are names."""
-    kinds = ["uint", "bytes4", "bytes", "string", "bool[]", "int[2]", "(int)", "()[]"]
+    kinds = ["uint", "bytes4", "bytes", "string", "bool[]", "()"]
     words = [
         "", "a", "indexed", "calldata", "memory", "indexed a", "calldata a", "memory a",
-        "calldata memory", "indexed indexed", "memory memory a", "storage a", "memoryx", "Memory",
-    ]  # fmt: skip
+        "calldata memory", "indexed indexed", "memory memory a", "memoryx",
+    ]
     for head, kind, word in product(HEADS.values(), kinds, words):
         yield "general", f"{head}({kind} {word})"
     for kind, word in product(["uint", "string", "()"], ["calldata", "memory a", "indexed"]):
@@ -251,8 +253,8 @@ def tails():
         "returns(uin)", "returns int", "returns()returns()", "pure;", "payable ;", "anonymous;",
         "anonymous anonymous", ";", " ; ", "; x", ";;", "; ;", "pure;view", "{}", "é", "//", ",",
         ")", "[]", "\\", '"', "'",
-    ]  # fmt: skip
-    yield from by_both(f"{head}() {rest}" for head in HEADS.values() for rest in rests)
+    ]
+    yield from by_general(f"{head}() {rest}" for head in HEADS.values() for rest in rests)
 
 
 def tuple_depths():
@@ -268,6 +270,8 @@ def tuple_depths():
         yield "error", f"error e({nested(depth, 'int', '[2]')})"
         yield "event", f"event e(bool,{nested(depth, 'int a', '[ ]')} indexed)"
         yield "general", f"function f(bool,{nested(depth, 'int,')})"
+    deep = nested(MOST_TUPLES)
+    yield "function", f"function f({deep} a)returns({deep},{deep}[2])"
 
 
 def tuple_suffixes():
@@ -279,7 +283,7 @@ def tuple_suffixes():
         "[2]]", "]", "[2a]", "[a]", "[]a", "[2]a", "[][2][]", "[2][ 3]", "[][+3]", "[٢]",
         "[\u3000]", "[2\u00a0]", "[\u00a02]", "\u2003[2]", "[2\u200b]", "\n[\t]\r[1\x0b]", "[2,]",
         "[2)", "[)]", "[()]", "a[2]", " a [2]", "x", "[2] memory a", "[ ]memory", "[2]indexed",
-    ]  # fmt: skip
+    ]
     for suffix in suffixes:
         yield "function", f"function f((int){suffix})"
         yield "general", f"event e((){suffix})"
@@ -293,18 +297,18 @@ def broken_lists():
         "(int a,b)", "(int;)", "(int))", "((int)", "((int,bool)", "(int(bool))", "((),())",
         "((int)a(int)b)", "((int a b))", "((int,))", "(bool,(int,(uin)))", "((),(),x)",
         "((bool)x y)", "( ( int ) , ( ) )", "(int , )", "(int,)a", ")", "[]", "x", "a(int)",
-    ]  # fmt: skip
-    yield from by_both(head + rest for head in HEADS.values() for rest in rests)
+    ]
+    yield from by_general(head + rest for head in HEADS.values() for rest in rests)
 
 
 def short_declarations():
-    """Every short string of tokens at three places of a declaration."""
-    yield from by_general("function f" + rest for rest in strings(["(", ")", ",", "int", " "], 4))
-    inside = ["(", ")", ",", "bool", " ", "[2]", "memory"]
+    """Every short string of tokens at several places of a declaration."""
+    yield from by_general("function f" + rest for rest in strings(["(", ")", ",", "int", " "], 3))
+    inside = ["(", ")", ",", "bool", " ", "[2]"]
     yield from by_general(f"function f({rest})" for rest in strings(inside, 3))
-    inside = ["int", " ", "indexed", ",", "()"]
+    inside = ["int", " ", "indexed", "()"]
     yield from by_general(f"event e({rest})" for rest in strings(inside, 3))
-    behind = [" ", "pure", "view", "returns", "()", ";"]
+    behind = [" ", "pure", "returns", "()", ";"]
     yield from by_general("function f()" + rest for rest in strings(behind, 3))
 
 
@@ -314,26 +318,28 @@ def short_declarations():
 def blanks():
     """Each Unicode blank wherever one may stand, and characters that are no blanks."""
     places = [
-        "~function f()", "function~f()", "function f~()", "error e(~)", "event e(int~a)",
-        "error e(bool~,int)", "error e(()~[2])", "error e(()[~])", "function f()~pure",
-        "constructor()~;~",
-    ]  # fmt: skip
+        "~function f()", "function~f()", "error e(~)", "event e(int~a)", "error e(bool~,int)",
+        "error e(()~[2])", "error e(()[~])", "constructor()~;~",
+    ]
     for blank, place in product(BLANKS, places):
         yield "general", place.replace("~", blank)
     for other, place in product(LOOK_ALIKES, places[1::2]):
         yield "general", place.replace("~", other)
     for character in BLANKS + LOOK_ALIKES:
         yield "event", character + "event e()"
-        yield "function", f"function{character} (int)"
+    yield from by_general(f"function{blank} (int)" for blank in BLANKS)
+    everywhere = "~function~f~(~int~a~,~()~[2~]~)~pure~returns~(~)~;~"
+    yield from (("function", everywhere.replace("~", blank)) for blank in BLANKS)
     every = "".join(BLANKS)
-    yield from by_both(f"error{every}e{every}({every}int{every}a{every}){every}" for _ in "1")
+    yield "error", f"{every}error{every}e{every}({every}int{every}a{every}){every}"
     yield from by_both(["function \t f\n(\r\n int\x0b,\x0cbool ) view ; \n"])
 
 
 def messages():
-    """Characters that a message shows: each ASCII byte, and some that Rust escapes."""
+    """Characters that a message shows: ASCII, and some others that Rust's Debug escapes."""
+    ascii_marks = [chr(code) for code in range(128) if not chr(code).isalnum()]
     others = "\u0080\u00ad\u0301\u2028\ue000\ufffe\ufffd\u00e9\u20ac\U0001f600\U0010ffff"
-    yield from by_general(f"function f(){c}x" for c in [*map(chr, range(128)), *others])
+    yield from by_general(f"function f(){c}x" for c in [*ascii_marks, *others])
     yield from by_general(f"{c}y" for c in ["\0", "\t", "\r", '"', "\\", "\x1b", *others])
     yield from by_general("event e()" + "x" * count for count in [1, 9, 10, 11, 12])
     yield from by_general("event" + " " * count + "1" for count in [1, 4, 5, 6, 9, 10])
@@ -345,7 +351,7 @@ def cut_characters():
     openings = [
         ("general", ""), ("error", ""), ("function", "function "), ("event", "event e "),
         ("general", "function f("), ("constructor", "constructor()"),
-    ]  # fmt: skip
+    ]
     for (call, before), count in product(openings, range(6, 11)):
         for character in "é€😀":
             yield call, before + "1" * count + character + "z"
@@ -364,9 +370,9 @@ def invalid_utf8():
     bad = [
         "80", "bf", "c080", "c1bf", "e08080", "e09fbf", "f0808080", "f08fbfbf", "eda080",
         "edbfbf", "f4908080", "f5808080", "f8888080", "fe", "ff", "c2", "e1", "e180", "f1",
-        "f180", "f18080", "c220", "e120", "e18020", "f18080", "f1808020", "c2c280", "e1c280",
+        "f180", "f18080", "c220", "e120", "e18020", "f1808020", "c2c280", "e1c280",
         "f180c280", "80c280", "c28080", "e28083bf", "ed", "eda0", "e0", "e09f", "f4", "f490",
-    ]  # fmt: skip
+    ]
     good = ["c280", "dfbf", "e0a080", "ed9fbf", "ee8080", "efbfbf", "f0908080", "f48fbfbf"]
     for piece in map(bytes.fromhex, bad + good):
         yield "general", piece
@@ -384,6 +390,8 @@ def invalid_utf8():
 class Maker:
     """Makes good declarations by document 01's grammar, in every spelling."""
 
+    NAMES = ["a", "b1", "_", "$x", "to", "memory", "indexed", "returns", "uint", "function"]
+
     def __init__(self, seed):
         self.random = random.Random(seed)
 
@@ -398,67 +406,67 @@ class Maker:
         """A place where a blank must stand."""
         return self.one_of([" ", " ", " ", " ", "  ", "\t", self.one_of(BLANKS)])
 
-    def name(self):
-        return self.one_of(["a", "b1", "_", "$x", "to", "memory", "indexed", "returns", "uint"])
-
-    def number(self, number):
-        return self.one_of([f"{number}", f"{number}", *spellings(number)])
+    def some(self, make):
+        """None, one or two of what `make` makes."""
+        return "".join(make() for _ in range(self.one_of([0, 0, 1, 1, 2])))
 
     def suffix(self):
-        return self.one_of(["[]", f"[{self.number(self.random.randrange(12))}]"])
+        length = self.one_of(spellings(self.random.randrange(12)))
+        return self.one_of(["[]", f"[{length}]"])
 
-    def suffixes(self):
-        return "".join(self.suffix() for _ in range(self.one_of([0, 0, 0, 1, 1, 2])))
-
-    def elementary(self):
-        sized = self.one_of(["int", "uint"]) + self.number(self.one_of(WIDTHS))
-        fixed = "bytes" + self.number(self.one_of(BYTE_LENGTHS))
-        return self.one_of([sized, fixed, *PLAIN_KINDS]) + self.suffixes()
+    def elementary_kind(self):
+        integer = self.one_of(["int", "uint"]) + self.one_of(spellings(self.one_of(WIDTHS)))
+        fixed = "bytes" + self.one_of(spellings(self.one_of(BYTE_LENGTHS)))
+        return self.one_of([integer, fixed, *PLAIN_KINDS]) + self.some(self.suffix)
 
     def tuple_suffix(self):
         digits = self.one_of(["", "2", "07"])
         return f"{self.gap()}[{digits}{self.gap()}]"
 
-    def tuple(self, depth):
-        fields = self.list(lambda: [], depth - 1)
-        return fields + "".join(self.tuple_suffix() for _ in range(self.one_of([0, 0, 1, 2])))
-
     def kind(self, depth):
         if depth > 0 and self.random.randrange(4) == 0:
-            return self.tuple(depth)
-        return self.elementary()
+            return self.fields("tuple", depth - 1) + self.some(self.tuple_suffix)
+        return self.elementary_kind()
 
-    def field(self, words, depth):
-        """A kind and then some words: marks, as `words` gives them, and a name."""
-        following = words() + self.one_of([[], [self.name()]])
-        return self.kind(depth) + "".join(self.blank() + word for word in following)
+    def mark(self, sort, kind):
+        """A mark that the sort of list and the kind admit, or none."""
+        if sort == "event":
+            return self.one_of(["", "indexed"])
+        if sort == "parameter" and (kind in ["bytes", "string"] or kind[-1] in "])"):
+            return self.one_of(["", "calldata", "memory"])
+        return ""
 
-    def list(self, words, depth=3):
-        fields = [self.field(words, depth) for _ in range(self.one_of([0, 1, 1, 2, 3]))]
+    def field(self, sort, depth):
+        kind = self.kind(depth)
+        words = [self.mark(sort, kind), self.one_of(["", self.one_of(self.NAMES)])]
+        return kind + "".join(self.blank() + word for word in words if word)
+
+    def fields(self, sort, depth=3):
+        """A list in brackets; its sort is parameter, event or tuple (an error's too)."""
+        fields = [self.field(sort, depth) for _ in range(self.one_of([0, 1, 1, 2, 3]))]
         return "(" + ",".join(self.gap() + field + self.gap() for field in fields) + ")"
 
-    def indexed(self):
-        return self.one_of([[], ["indexed"]])
+    def opening(self, keyword):
+        return keyword + self.blank() + self.one_of(self.NAMES) + self.gap()
 
-    def words(self, choices):
-        """Some words behind a list, each after a blank."""
-        word = self.one_of(choices)
-        return self.blank() + word if word else ""
+    def word(self, choices):
+        """One of the words behind a list, or none."""
+        return self.one_of(["", self.blank() + self.one_of(choices)])
 
     def function(self):
-        text = "function" + self.blank() + self.name() + self.gap() + self.list(list)
-        text += self.words(["", "", "pure", "view", "payable"])
-        return text + self.one_of(["", self.blank() + "returns" + self.gap() + self.list(list)])
+        returns = self.blank() + "returns" + self.gap() + self.fields("parameter")
+        mutability = self.word(["pure", "view", "payable"])
+        inputs = self.fields("parameter")
+        return self.opening("function") + inputs + mutability + self.one_of(["", returns])
 
     def constructor(self):
-        return "constructor" + self.gap() + self.list(list) + self.words(["", "payable"])
+        return "constructor" + self.gap() + self.fields("parameter") + self.word(["payable"])
 
     def event(self):
-        text = "event" + self.blank() + self.name() + self.gap()
-        return text + self.list(self.indexed) + self.words(["", "anonymous"])
+        return self.opening("event") + self.fields("event") + self.word(["anonymous"])
 
     def error(self):
-        return "error" + self.blank() + self.name() + self.gap() + self.list(list)
+        return self.opening("error") + self.fields("tuple")
 
     def declaration(self):
         text = self.one_of([self.function, self.constructor, self.event, self.error])()
@@ -466,16 +474,16 @@ class Maker:
 
 
 def grammar_made():
-    """Good texts by the grammar (a field named `memory` or `indexed` may be refused)."""
+    """Good texts by the grammar."""
     maker = Maker(1)
-    for _ in range(240):
+    for _ in range(220):
         text = maker.declaration()
         yield maker.one_of(["general", call_of(text)]), text
 
 
 # --- damaged texts ----------------------------------------------------------------
 
-GOOD = [
+GOOD_DECLARATIONS = [
     "function f(uint a)",
     "function f(address to, uint256 n) returns (bool)",
     "function g(string memory s,(int,bool)[2] t) view;",
@@ -489,12 +497,13 @@ GOOD = [
     "function\u00a0f(\u2003bool\u3000a\u0085)\u2028pure",
 ]
 
-DAMAGED_KINDS = ["uint256[2][]", "bytes32[+07]", "int+08[][10]", "address[]", "string[0]"]
+GOOD_KINDS = ["uint256[2][]", "bytes32[+07]", "int+08[][10]", "address[]", "string[0]"]
 
 
 class Damager:
     """Damages a text, given as bytes, in one of six ways."""
 
+    # What is put in: tokens, whole characters and pieces of characters.
     PIECES = [b" ", b"(", b")", b",", b";", b"[", b"]", b"+", b"0", b"8", b"a", b"int", b"[]"]
     PIECES += ["é".encode(), "\u00a0".encode(), "\u2003".encode(), b"\xa0", b"\xc2", b"\0", b'"']
 
@@ -515,8 +524,10 @@ class Damager:
         return text[:end] + text[start:]
 
     def swap(self, text):
+        """Swaps a piece with the byte behind it."""
         start, end = self.span(text)
-        return text[:start] + text[end : end + 1] + text[start:end] + text[end + 1 :]
+        behind = end + 1
+        return text[:start] + text[end:behind] + text[start:end] + text[behind:]
 
     def insert(self, text):
         start = self.random.randrange(len(text) + 1)
@@ -529,7 +540,7 @@ class Damager:
     def change_bit(self, text):
         start = self.random.randrange(len(text))
         changed = text[start] ^ (1 << self.random.randrange(8))
-        return text[:start] + bytes([changed]) + text[start + 1 :]
+        return text[:start] + bytes([changed]) + text[start + 1:]
 
     def damage(self, text):
         ways = [self.delete, self.duplicate, self.swap, self.insert, self.replace, self.change_bit]
@@ -539,20 +550,20 @@ class Damager:
 def damaged():
     """Good texts with one or two damages."""
     damager = Damager(2)
-    for text, _ in product(GOOD, range(50)):
+    for text, _ in product(GOOD_DECLARATIONS, range(15)):
         once = damager.damage(text.encode())
         yield damager.random.choice(["general", call_of(text)]), once
         yield "general", damager.damage(once)
-    for text, _ in product(DAMAGED_KINDS, range(24)):
+    for text, _ in product(GOOD_KINDS, range(16)):
         yield "kind", damager.damage(text.encode())
 
 
 def cuts():
     """Good texts cut at every byte."""
-    for text in [GOOD[2], GOOD[5], GOOD[6], GOOD[10]]:
+    for text in GOOD_DECLARATIONS[2::4]:
         whole = text.encode()
         yield from by_general(whole[:size] for size in range(len(whole) + 1))
-    for text in DAMAGED_KINDS:
+    for text in GOOD_KINDS:
         yield from by_kind(text[:size] for size in range(len(text) + 1))
 
 
@@ -569,19 +580,19 @@ def long_texts():
     yield "kind", padded("uint", "0", "8")
     yield "kind", padded("bytes+", "0", "32")
     yield "kind", padded("bool[", "0", "2]")
-    yield "kind", padded("bool[", "9", "]")
+    yield "kind", padded("bool[", "9", "]", 300)
     yield "kind", padded("uint", "[]", "")
-    yield "kind", padded("uint", "[]", "x")
+    yield "kind", padded("uint", "[]", "x", 900)
     yield "kind", padded("string", "[1]", "", 900)
     yield "constructor", padded("constructor(()[", "0", "7])")
-    yield "constructor", padded("constructor(()[", "9", "])")
+    yield "constructor", padded("constructor(()[", "9", "])", 300)
     yield "constructor", padded("constructor(()", "[ ]", ")", 1200)
     yield "general", padded("function f(int", ",int", ")", 1000)
     yield "general", padded("function f(int", ",int", ",)")
     yield "event", padded("event e(bool indexed a", ",bool indexed a", ")", 1200)
     deep = nested(MOST_TUPLES)
     yield "error", padded("error e(" + deep, "," + deep, ")")
-    yield "error", padded("error e(" + deep, "," + deep, ",x)")
+    yield "error", padded("error e(" + deep, "," + deep, ",x)", 900)
 
 
 # --- the list ---------------------------------------------------------------------
@@ -591,11 +602,11 @@ GROUPS = [
     short_kinds, kinds_in_lists, marks, tails, tuple_depths, tuple_suffixes, broken_lists,
     short_declarations, blanks, messages, cut_characters, invalid_utf8, grammar_made, damaged,
     cuts, long_texts,
-]  # fmt: skip
+]
 
 
 def most_open(text):
-    """The most brackets that are open at once: no fewer than the reader meets."""
+    """The most brackets open at once, which are no fewer than the reader has open."""
     most = count = 0
     for byte in text:
         count += (byte == ord("(")) - (byte == ord(")"))
@@ -604,14 +615,15 @@ def most_open(text):
 
 
 def in_domain(call, text):
-    """Whether the Rust's answer is the reference: short enough, at most 32 tuples in a
-    list, and no kind text that starts with a bracket."""
-    if call == "kind":
-        return len(text) <= MOST_BYTES and not text.startswith(b"(")
-    return len(text) <= MOST_BYTES and most_open(text) <= MOST_TUPLES + 1
+    """Whether the Rust's answer is the reference: a text that is short enough, with at
+    most 32 tuples open inside a list, and no kind text that starts with a bracket."""
+    if call == "kind" and text.startswith(b"("):
+        return False
+    return len(text) <= MOST_BYTES and most_open(text) <= 1 + MOST_TUPLES
 
 
 def lines():
+    """The line of each text in the domain, some of them more than once."""
     for group in GROUPS:
         for call, text in group():
             whole = text.encode() if isinstance(text, str) else text
@@ -624,4 +636,5 @@ def main():
         print(line)
 
 
-main()
+if __name__ == "__main__":
+    main()

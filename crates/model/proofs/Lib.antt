@@ -1,3 +1,4 @@
+pub mod Scans
 pub mod Evaluation
 pub mod Edges
 pub mod Worked

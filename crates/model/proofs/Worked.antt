@@ -15,6 +15,7 @@ use Rattle.model.specs.Record.{decode}
 use Rattle.model.specs.Answer.{writes, accepted, refused, outcome, after}
 use Rattle.model.specs.Calls.{readOutput, kindOutput, readKind, canonicalOutput, signatureOutput, nameOutput}
 use Rattle.model.specs.Message.{messageOutput}
+use Rattle.model.specs.Deposit.{depositLine}
 use Rattle.model.proofs.Evaluation.{evaluation}
 
 -- document 01's record of `function f(uint a)`
@@ -86,3 +87,7 @@ message = refl
 message-context : messageOutput call.Function (ascii "function transfer(address\tto, \"uint256 amount)") ≡ writes (ascii "expected ) at position 28(\"...address\\tto|, \\\"uint256...\")")
 unfolding evaluation
 message-context = refl
+
+deposited : (depositLine (ascii "function f(uint a)") ≡ ascii "ok function 50 f(uint256)") × (depositLine (ascii "constructor()") ≡ ascii "ok constructor 14 -") × (depositLine (ascii "function f(uin)") ≡ ascii "no 3 11")
+unfolding evaluation
+deposited = (refl, refl, refl)

@@ -9,3 +9,4 @@ pub mod Line
 pub mod Answer
 pub mod Calls
 pub mod Message
+pub mod Deposit
