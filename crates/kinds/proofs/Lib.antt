@@ -1,1 +1,5 @@
+pub mod Logic
+pub mod Decimal
+pub mod Machine
+pub mod Joined
 pub mod Examples

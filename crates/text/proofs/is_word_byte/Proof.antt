@@ -1,0 +1,25 @@
+use borrow.Author.Needs.{needs}
+use Rattle.text.proofs.is_word_byte.Statement.{statement}
+use Rattle.text.proofs.is_word_byte.Tie as tie
+use Rattle.text.proofs.is_word_byte.Reads as reads
+use Rattle.text.proofs.is_word_byte.Lts as lts
+use Rattle.text.proofs.is_letter.Reads as is-letter-reads
+
+-- src/lib.rt:32:9
+returns : tie.Need-returns
+returns c = ?
+
+-- src/lib.rt:32:9
+returns-2 : tie.Need-returns-2
+returns-2 c = ?
+
+-- src/lib.rt:34:5
+is-letter-requires : tie.Need-is-letter-requires
+is-letter-requires c κs = search needs
+
+-- src/lib.rt:28:1
+returns-3 : tie.Need-returns-3
+returns-3 c = ?
+
+pub is-word-byte-spec : {M : Type 1} → statement M
+is-word-byte-spec = tie.close (tie.spec returns returns-2 is-letter-requires returns-3)
