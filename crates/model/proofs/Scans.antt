@@ -1,19 +1,20 @@
 -- Laws of scanning: how far items reach, what stands at a place, blanks, words and runs.
 -- Assumes nothing.
 use mathlib.Core.Path.{_≡_, refl, sym, _∙_, ap}
-use mathlib.Core.Bool.{Bool, true, false, _&&_, _||_, not, and-eq-true-iff}
+use mathlib.Core.Bool.{Bool, true, false, _&&_, _||_, not, cond, and-eq-true-iff}
 use mathlib.Core.List.{List, [], _∷_, _++_}
-use Prim.Native.Nat.{ℕ, zero, suc, _+_, _-_, _≤_, _<_, zero-le, suc-le-suc}
+use mathlib.Core.Option.{Option, none, some}
+use Prim.Native.Nat.{ℕ, zero, suc, _+_, _*_, _-_, _≤_, _<_, zero-le, suc-le-suc}
 use native.Mathlib.Omega.{arith}
 use native.Mathlib.Nat.{add-zero, zero-add}
 use native.Mathlib.Numerals.{add-one}
 use native.Mathlib.Decide.{decLt}
 use lib.Dec.{leb, ltb, eqb}
 use lib.ListN.{length, take, drop, getD, length-append, length-drop, drop-of-length-le}
-use lib.Seq.{drop-cons, drop-drop, drop-append-seam, take-append-seam, drop-append-le, take-append-le, getD-append-seam}
+use lib.Seq.{take-all, drop-cons, drop-drop, drop-append-seam, take-append-seam, drop-append-le, take-append-le, getD-append-seam}
 use borrow.Author.Tests.{lt-ltb, le-ltb, ltb-true, leb-true, le-leb, lt-leb, eqb-true, ne-eqb, not-true}
 use Rattle.kinds.specs.Bytes.{comma, rparen, between, all, isDigit, isLetter, isWordByte, isWord}
-use Rattle.model.specs.Text.{spanFrom, span, one, char, charOf, isBlank, blankLength, blank, skip, peek, wordLength, runByte, runLength, part}
+use Rattle.model.specs.Text.{spanFrom, span, one, Char, char, noChar, isTail, tails, scalar, charOf, charLength, isBlank, blankLength, blank, skip, peek, wordLength, runByte, runLength, part}
 
 and-both : (x y : Bool) → (x && y) ≡ true → (x ≡ true) × (y ≡ true)
 and-both x y e = (and-eq-true-iff x y) .0 e
@@ -58,7 +59,36 @@ span-bytes f p h (c ∷ w) t a =
     let b = and-both (p c) (all p w) a in
     omega (arith, span-item f (c ∷ (w ++ t)) 0 (h c (w ++ t) (b .0)) (omega arith), span-bytes f p h w t (b .1))
 
+-- For a loop that counts: the items from i on, where there is none, where one is passed, and at the end. r is the code's test.
+pub scan-none : (f : List ℕ → ℕ) (t : List ℕ) (i n : ℕ) → f (drop i t) ≡ 0 → i + span f (drop i t) ≡ n → i ≡ n
+scan-none f t i n e q = omega (arith, span-none f (drop i t) e)
+
+pub scan-item : (f : List ℕ → ℕ) (t : List ℕ) (i k n : ℕ) → f (drop i t) ≡ k → 0 < k → i + k ≤ length t → i + span f (drop i t) ≡ n → i + k + span f (drop (i + k) t) ≡ n
+scan-item f t i zero n e z l q = omega arith
+scan-item f t i (suc k) n e z l q =
+    let h : span f (drop i t) ≡ suc k + span f (drop (suc k) (drop i t)) = span-item f (drop i t) k e (rw length-drop (omega arith)) in
+    let g = rw drop-drop at h in
+    omega arith
+
+pub scan-end : (f : List ℕ → ℕ) (t : List ℕ) (i n : ℕ) → length t ≤ i → i + span f (drop i t) ≡ n → i ≡ n
+scan-end f t i n h q = omega (arith, span-le f (drop i t), length-drop i t)
+
+one-at : (p : ℕ → Bool) (t : List ℕ) (i : ℕ) (b : Bool) → i < length t → p (getD t i 0) ≡ b → one p (drop i t) ≡ (elim b [ true ↦ 1 | false ↦ 0 ])
+one-at p t i true h e = rw (drop-cons t i 0 h, one, e)
+one-at p t i false h e = rw (drop-cons t i 0 h, one, e)
+
+module _ (p : ℕ → Bool) (t : List ℕ) (i n : ℕ) (r : Bool) (h : i < length t) (e : r ≡ p (getD t i 0)) where
+  pub bytes-stop : r ≡ false → i + span (one p) (drop i t) ≡ n → i ≡ n
+  bytes-stop w q = scan-none (one p) t i n (one-at p t i false h (sym e ∙ w)) q
+
+  pub bytes-more : r ≡ true → i + span (one p) (drop i t) ≡ n → i + 1 + span (one p) (drop (i + 1) t) ≡ n
+  bytes-more w q = scan-item (one p) t i 1 n (one-at p t i true h (sym e ∙ w)) (omega arith) (omega arith) q
+
 -- What stands at a place: the text from there on.
+
+-- a part from a place to the end, as the code's `&s[at..]` is given, is what is left
+pub part-rest : (s : List ℕ) (at : ℕ) → take (length s - at) (drop at s) ≡ drop at s
+part-rest s at = take-all (length s - at) (drop at s) (rw length-drop (omega arith))
 
 -- past what stands there
 pub stands-past : (s : List ℕ) (at : ℕ) (u r : List ℕ) → drop at s ≡ u ++ r → drop (at + length u) s ≡ r
@@ -90,6 +120,47 @@ peek-inside s at b e h = elim (decLt at (length s)) [ yes p ↦ p | no p ↦ abs
   where
     clash : length s ≤ at → ⊥
     clash q = omega (arith, peek-end s at q)
+
+-- Characters.
+
+-- tail bytes lie within the list
+tails-inside : (k v w : ℕ) (t : List ℕ) → tails k v t ≡ some w → k ≤ length t
+tails-inside zero v w t e = omega arith
+tails-inside (suc k) v w [] e = let y : _≡_ {A = ℕ} 0 1 = cc in omega arith
+tails-inside (suc k) v w (c ∷ t) e = go (isTail c) refl (λ q. tails-inside k (v * 64 + (c - 0x80)) w t q)
+  where
+    go : (b : Bool) → isTail c ≡ b → (tails k (v * 64 + (c - 0x80)) t ≡ some w → k ≤ length t) → suc k ≤ suc (length t)
+    go true q ih = suc-le-suc (ih (rw (tails, q) at e))
+    go false q ih = let z : none ≡ some w = rw (tails, q) at e in let y : _≡_ {A = ℕ} 0 1 = cc in omega arith
+
+scalar-inside : (n low k v : ℕ) (t : List ℕ) → n ≤ suc k → charLength (scalar n low (tails k v t)) ≤ suc (length t)
+scalar-inside n low k v t h = go (tails k v t) refl
+  where
+    go : (o : Option ℕ) → tails k v t ≡ o → charLength (scalar n low o) ≤ suc (length t)
+    go none e = omega arith
+    go (some w) e = test (between low 0x10FFFF w && not (between 0xD800 0xDFFF w))
+      where
+        test : (b : Bool) → charLength (elim b [ true ↦ char w n | false ↦ noChar ]) ≤ suc (length t)
+        test true = omega (arith, tails-inside k v w t e)
+        test false = omega arith
+
+-- what holds of both holds of the one that is taken
+cond-all : {A : Type 0} (P : A → Type 0) (b : Bool) (x y : A) → P x → P y → P (cond b x y)
+cond-all P true x y p q = p
+cond-all P false x y p q = q
+
+-- a character lies within the list
+pub char-inside : (t : List ℕ) → charLength (charOf t) ≤ length t
+unfolding charOf
+char-inside [] = zero-le
+char-inside (a ∷ t) =
+    cond-all Inside (ltb a 0x80) _ _ (omega arith)
+    (cond-all Inside (between 0xC0 0xDF a) _ _ (scalar-inside 2 0x80 1 (a - 0xC0) t (omega arith))
+    (cond-all Inside (between 0xE0 0xEF a) _ _ (scalar-inside 3 0x800 2 (a - 0xE0) t (omega arith))
+    (cond-all Inside (between 0xF0 0xF7 a) _ _ (scalar-inside 4 0x10000 3 (a - 0xF0) t (omega arith)) (omega arith))))
+  where
+    Inside : Char → Type 0
+    Inside c = charLength c ≤ suc (length t)
 
 -- Blanks.
 
@@ -185,6 +256,22 @@ word-written (c ∷ w) t h e =
     let b = and-both (isLetter c) (all isWordByte w) h in
     rw (wordLength, b .0) (omega (arith, span-bytes (one isWordByte) isWordByte (λ d u q. rw (one, q)) w t (b .1), span-none (one isWordByte) t e))
 
+-- for the code: a word by its first byte, where r is the code's test
+pub word-empty : (t : List ℕ) → length t ≡ 0 → 0 ≡ wordLength t
+unfolding wordLength
+word-empty [] h = refl
+word-empty (c ∷ t) h = absurd (omega arith)
+
+pub word-none : (t : List ℕ) (r : Bool) → (length t ≡ 0 → ⊥) → r ≡ isLetter (getD t 0 0) → r ≡ false → 0 ≡ wordLength t
+unfolding wordLength
+word-none [] r h e w = absurd (h refl)
+word-none (c ∷ t) r h e w = rw (wordLength, ← e, w)
+
+pub word-first : (t : List ℕ) (r : Bool) → (length t ≡ 0 → ⊥) → r ≡ isLetter (getD t 0 0) → r ≡ true → 1 + span (one isWordByte) (drop 1 t) ≡ wordLength t
+unfolding wordLength
+word-first [] r h e w = absurd (h refl)
+word-first (c ∷ t) r h e w = rw (wordLength, ← e, w) (omega arith)
+
 -- a run of bytes that are neither blanks nor `,` nor `)`, and what ends it
 abbrev pub isRunByte : ℕ → Bool
 isRunByte c = between 33 127 c && (not (eqb c comma) && not (eqb c rparen))
@@ -199,3 +286,5 @@ run-byte c t e =
 pub run-written : (w t : List ℕ) → all isRunByte w ≡ true → runByte t ≡ 0 → runLength (w ++ t) ≡ length w
 unfolding runLength
 run-written w t h e = omega (arith, span-bytes runByte isRunByte run-byte w t h, span-none runByte t e)
+
+pub ruleset scanning = (scan-none, scan-item, scan-end, bytes-stop, bytes-more, word-empty, word-none, word-first)

@@ -1,6 +1,6 @@
 -- Texts as lists of bytes: UTF-8, blanks, words and runs. A place is a byte offset from 0.
 -- Assumes nothing.
-use mathlib.Core.Bool.{Bool, true, false, _&&_, _||_, not}
+use mathlib.Core.Bool.{Bool, true, false, _&&_, _||_, not, cond}
 use mathlib.Core.List.{List, [], _∷_}
 use mathlib.Core.Option.{Option, none, some}
 use Prim.Native.Nat.{ℕ, zero, suc, _+_, _*_, _-_}
@@ -47,18 +47,10 @@ scalar n low (some v) = elim (between low 0x10FFFF v && not (between 0xD800 0xDF
 unfoldable pub charOf : List ℕ → Char
 charOf [] = noChar
 charOf (a ∷ t) =
-    elim (ltb a 0x80) [
-      | true ↦ char a 1
-      | false ↦
-          elim (between 0xC0 0xDF a) [
-            | true ↦ scalar 2 0x80 (tails 1 (a - 0xC0) t)
-            | false ↦
-                elim (between 0xE0 0xEF a) [
-                  | true ↦ scalar 3 0x800 (tails 2 (a - 0xE0) t)
-                  | false ↦ elim (between 0xF0 0xF7 a) [ true ↦ scalar 4 0x10000 (tails 3 (a - 0xF0) t) | false ↦ noChar ]
-                ]
-          ]
-    ]
+    cond (ltb a 0x80) (char a 1)
+    (cond (between 0xC0 0xDF a) (scalar 2 0x80 (tails 1 (a - 0xC0) t))
+    (cond (between 0xE0 0xEF a) (scalar 3 0x800 (tails 2 (a - 0xE0) t))
+    (cond (between 0xF0 0xF7 a) (scalar 4 0x10000 (tails 3 (a - 0xF0) t)) noChar)))
 
 abbrev pub charLength : Char → ℕ
 charLength (char v n) = n

@@ -17,7 +17,7 @@ digit-low c h = rw (lt-leb 48 c h)
 pub letter-small : (c : ℕ) → 97 ≤ c → leb c 122 ≡ isLetter c
 letter-small c h = rw (le-leb 97 c h, le-leb 65 c (omega arith), lt-leb c 90 (omega arith), ne-eqb c 36 (omega arith), ne-eqb c 95 (omega arith)) (sym (or-false (leb c 122)))
 
-pub letter-capital : (c : ℕ) → c < 97 → 65 ≤ c → c ≤ 90 → true ≡ isLetter c
+pub letter-capital : (c : ℕ) → c < 97 → 65 ≤ c → c ≤ 90 → leb c 90 ≡ isLetter c
 letter-capital c h i j = rw (lt-leb 97 c h, le-leb 65 c i, le-leb c 90 j)
 
 pub letter-line : (c : ℕ) → c < 97 → 65 ≤ c → 90 < c → eqb c 95 ≡ isLetter c
@@ -26,7 +26,7 @@ letter-line c h i j = rw (lt-leb 97 c h, le-leb 65 c i, lt-leb c 90 j, ne-eqb c 
 pub letter-dollar : (c : ℕ) → c < 97 → c < 65 → eqb c 36 ≡ isLetter c
 letter-dollar c h i = rw (lt-leb 97 c h, lt-leb 65 c i, ne-eqb c 95 (omega arith)) (sym (or-false (eqb c 36)))
 
-pub word-digit : (c : ℕ) → c ≤ 57 → 48 ≤ c → true ≡ isWordByte c
+pub word-digit : (c : ℕ) → c ≤ 57 → 48 ≤ c → leb 48 c ≡ isWordByte c
 word-digit c h i = rw (le-leb 48 c i, le-leb c 57 h)
 
 pub word-dollar : (c : ℕ) → c ≤ 57 → c < 48 → eqb c 36 ≡ isWordByte c

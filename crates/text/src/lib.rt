@@ -1,9 +1,12 @@
 // Scanning texts: bytes, characters, blanks, words, runs and numbers. A scanner is handed a part of the text and answers a length.
 ghost use mathlib.Core.Path.{_≡_};
-ghost use Prim.Native.Nat.{_≤_};
+ghost use mathlib.Core.Option.{some};
+ghost use Prim.Native.Nat.{_+_, _*_, _≤_, _<_};
 ghost use lib.ListN.{length};
-ghost use Rattle.kinds.specs.Bytes.{isDigit, isLetter, isWordByte, same};
-ghost use Rattle.model.specs.Text.{span, one, wordLength};
+ghost use Rattle.kinds.specs.Bytes.{all, isDigit, isLetter, isWordByte, same};
+ghost use Rattle.model.specs.Text.{span, one, isTail, tails, scalar, validLength, isBlank, blank, skip, peek, wordLength, runLength};
+ghost use Rattle.model.specs.KindText.{starts};
+ghost use Rattle.text.specs.Found.{isAscii, tailOf, codeOf, charFrom, CharIs};
 
 // 0-9
 pub fn is_digit(c: u8) -> bool
@@ -47,4 +50,178 @@ pub fn digits(t: &[u8]) -> usize
         }
     }
     i
+}
+
+// How long the word is that a part begins with.
+pub fn word(t: &[u8]) -> usize
+    ensures { λ r. ⌜ (r ≡ wordLength (now (t .entry))) × (r ≤ length (now (t .entry))) ⌝ }
+{
+    if t.len() == 0 {
+        return 0;
+    }
+    if is_letter(t[0]) {
+        let mut i = 1;
+        while i < t.len() {
+            if is_word_byte(t[i]) {
+                i += 1;
+            } else {
+                return i;
+            }
+        }
+        return i;
+    }
+    0
+}
+
+// Whether two byte strings are equal: decided at unequal lengths or at the first unequal byte.
+pub fn equal(a: &[u8], b: &[u8]) -> bool
+    ensures { λ r. ⌜ r ≡ same (now (a .entry)) (now (b .entry)) ⌝ }
+{
+    if a.len() != b.len() {
+        return false;
+    }
+    let mut i = 0;
+    while i < a.len() {
+        if a[i] != b[i] {
+            return false;
+        }
+        i += 1;
+    }
+    true
+}
+
+// Whether t begins with w.
+pub fn begins(w: &[u8], t: &[u8]) -> bool
+    ensures { λ r. ⌜ r ≡ starts (now (w .entry)) (now (t .entry)) ⌝ }
+{
+    let n = w.len();
+    if t.len() < n {
+        return false;
+    }
+    equal(w, &t[..n])
+}
+
+// Whether every byte is ASCII: by the largest of them, with no early exit.
+pub fn is_ascii(s: &[u8]) -> bool
+    ensures { λ r. ⌜ r ≡ all isAscii (now (s .entry)) ⌝ }
+{
+    let mut most: u8 = 0;
+    let mut i = 0;
+    while i < s.len() {
+        if most < s[i] {
+            most = s[i];
+        }
+        i += 1;
+    }
+    most < 128
+}
+
+// Characters.
+
+// The six bits of a tail byte, which is the second or a later byte of a character, and 64 if it is none.
+fn tail(c: u8) -> u32
+    ensures { λ r. ⌜ (r ≡ tailOf c) × (r ≤ 64) ⌝ }
+{
+    if c < 128 {
+        return 64;
+    }
+    if 191 < c {
+        return 64;
+    }
+    (c - 128) as u32
+}
+
+// The code point that k tail bytes complete, or one that is too large.
+fn tails(k: usize, v: u32, t: &[u8]) -> u32
+    requires { ⌜ (k ≤ 3) × (v < 32) ⌝ }
+    ensures { λ r. ⌜ r ≡ codeOf (tails k v (now (t .entry))) ⌝ }
+{
+    let mut code = v;
+    let mut i = 0;
+    while i < k {
+        if t.len() <= i {
+            return 0x110000;
+        }
+        let d = tail(t[i]);
+        if d == 64 {
+            return 0x110000;
+        }
+        code = code * 64 + d;
+        i += 1;
+    }
+    code
+}
+
+// A character by its code point and length; the length is 0 where there is none.
+pub struct Char {
+    pub code: u32,
+    pub len: usize,
+}
+
+// A code point that wants n bytes since it is at least low: no overlong form, no surrogate, at most 10FFFF.
+fn scalar(n: usize, low: u32, code: u32) -> Char
+    requires { ⌜ 0 < n ⌝ }
+    ensures { λ r. ⌜ charFrom (r .code) (r .len) ≡ scalar n low (some code) ⌝ }
+{
+    if code < low {
+        return Char { code, len: 0 };
+    }
+    if 0x10FFFF < code {
+        return Char { code, len: 0 };
+    }
+    if code < 0xD800 {
+        return Char { code, len: n };
+    }
+    if code <= 0xDFFF {
+        return Char { code, len: 0 };
+    }
+    Char { code, len: n }
+}
+
+// The character that a part begins with.
+pub fn char_of(t: &[u8]) -> Char
+    ensures { λ r. ⌜ CharIs (now (t .entry)) (r .code) (r .len) ⌝ }
+{
+    if t.len() == 0 {
+        return Char { code: 0, len: 0 };
+    }
+    let a = t[0];
+    if a < 0x80 {
+        return Char {
+            code: a as u32,
+            len: 1,
+        };
+    }
+    if a < 0xC0 {
+        return Char { code: 0, len: 0 };
+    }
+    if a < 0xE0 {
+        return scalar(2, 0x80, tails(1, (a - 0xC0) as u32, &t[1..]));
+    }
+    if a < 0xF0 {
+        return scalar(3, 0x800, tails(2, (a - 0xE0) as u32, &t[1..]));
+    }
+    if a < 0xF8 {
+        return scalar(4, 0x10000, tails(3, (a - 0xF0) as u32, &t[1..]));
+    }
+    Char { code: 0, len: 0 }
+}
+
+// "A blank is a character with Unicode White_Space".
+pub fn is_blank(code: u32) -> bool
+    ensures { λ r. ⌜ r ≡ isBlank code ⌝ }
+{
+    match code {
+        9..=13
+        | 32
+        | 0x85
+        | 0xA0
+        | 0x1680
+        | 0x2000..=0x200A
+        | 0x2028..=0x2029
+        | 0x202F
+        | 0x205F
+        | 0x3000 => true,
+        _ => false,
+    }
 }

@@ -1,3 +1,10 @@
+use borrow.Author.Needs.{needs}
+use mathlib.Core.Path.{_≡_}
+use Prim.Native.Nat.{_+_, _-_, _≤_}
+use lib.ListN.{length, drop}
+use Rattle.kinds.specs.Bytes.{isDigit}
+use Rattle.model.specs.Text.{span, one}
+use Rattle.model.proofs.Scans.{scanning}
 use Rattle.text.proofs.digits.Statement.{statement}
 use Rattle.text.proofs.digits.Tie as tie
 use Rattle.text.proofs.digits.Reads as reads
@@ -5,42 +12,42 @@ use Rattle.text.proofs.digits.Lts as lts
 use Rattle.text.proofs.is_digit.Reads as is-digit-reads
 
 abbrev Inv-loop : tie.InvT-loop
-Inv-loop t i₀ i = ?
+Inv-loop t i₀ i = (i ≤ length t) × (i + span (one isDigit) (drop i t) ≡ span (one isDigit) t)
 
 abbrev μ-loop : tie.MeasureT-loop
-μ-loop t i₀ i = ?
+μ-loop t i₀ i = length t - i
 
 -- src/lib.rt:42:5
 loop-holds : tie.Need-loop-holds Inv-loop μ-loop
-loop-holds c = ?
+loop-holds c = search (needs, scanning)
 
 -- src/lib.rt:43:21
 shared-slice-read-is-digit : tie.Need-shared-slice-read-is-digit Inv-loop μ-loop
-shared-slice-read-is-digit c = ?
+shared-slice-read-is-digit c = search (needs, scanning)
 
 -- src/lib.rt:43:12
 is-digit-requires : tie.Need-is-digit-requires Inv-loop μ-loop
-is-digit-requires c κs = ?
+is-digit-requires c κs = search (needs, scanning)
 
 -- src/lib.rt:44:13
 add-i : tie.Need-add-i Inv-loop μ-loop
-add-i c = ?
+add-i c = search (needs, scanning)
 
 -- src/lib.rt:42:5
 loop-less : tie.Need-loop-less Inv-loop μ-loop
-loop-less c = ?
+loop-less c = search (needs, scanning)
 
 -- src/lib.rt:42:5
 loop-again : tie.Need-loop-again Inv-loop μ-loop
-loop-again c = ?
+loop-again c = search (needs, scanning)
 
 -- src/lib.rt:46:13
 returns : tie.Need-returns Inv-loop μ-loop
-returns c = ?
+returns c = search (needs, scanning)
 
 -- src/lib.rt:38:1
 returns-2 : tie.Need-returns-2 Inv-loop μ-loop
-returns-2 c = ?
+returns-2 c = search (needs, scanning)
 
 pub digits-spec : {M : Type 1} → statement M
 digits-spec =

@@ -1,3 +1,4 @@
+use Rattle.text.proofs.Classes.{classes}
 use borrow.Author.Needs.{needs}
 use Rattle.text.proofs.is_word_byte.Statement.{statement}
 use Rattle.text.proofs.is_word_byte.Tie as tie
@@ -7,11 +8,11 @@ use Rattle.text.proofs.is_letter.Reads as is-letter-reads
 
 -- src/lib.rt:32:9
 returns : tie.Need-returns
-returns c = ?
+returns c = search (needs, classes)
 
 -- src/lib.rt:32:9
 returns-2 : tie.Need-returns-2
-returns-2 c = ?
+returns-2 c = search (needs, classes)
 
 -- src/lib.rt:34:5
 is-letter-requires : tie.Need-is-letter-requires
@@ -19,7 +20,7 @@ is-letter-requires c κs = search needs
 
 -- src/lib.rt:28:1
 returns-3 : tie.Need-returns-3
-returns-3 c = ?
+returns-3 c = search (needs, classes)
 
 pub is-word-byte-spec : {M : Type 1} → statement M
 is-word-byte-spec = tie.close (tie.spec returns returns-2 is-letter-requires returns-3)

@@ -1,0 +1,32 @@
+-- What the functions of this crate answer, by the definitions.
+-- Assumes nothing.
+use mathlib.Core.Path.{_≡_}
+use mathlib.Core.Bool.{Bool, true, false}
+use mathlib.Core.List.{List}
+use mathlib.Core.Option.{Option, none, some}
+use Prim.Native.Nat.{ℕ, zero, suc, _-_, _≤_}
+use lib.Dec.{ltb}
+use lib.ListN.{length}
+use Rattle.model.specs.Text.{Char, char, noChar, isTail, charOf}
+
+abbrev pub isAscii : ℕ → Bool
+isAscii c = ltb c 128
+
+-- the six bits of a tail byte, and 64 if it is none
+unfoldable pub tailOf : ℕ → ℕ
+tailOf c = elim (isTail c) [ true ↦ c - 128 | false ↦ 64 ]
+
+-- a code point, or one that is too large where there is none
+unfoldable pub codeOf : Option ℕ → ℕ
+codeOf none = 0x110000
+codeOf (some v) = v
+
+-- a character by its code point and length; the length is 0 where there is none
+unfoldable pub charFrom : ℕ → ℕ → Char
+charFrom v zero = noChar
+charFrom v (suc n) = char v (suc n)
+
+-- the character that a list begins with, which lies within it
+pub record CharIs (t : List ℕ) (v n : ℕ) : Type 0 where
+  pub same : charFrom v n ≡ charOf t
+  pub inside : n ≤ length t
