@@ -5,7 +5,7 @@ use mathlib.Core.List.{List, [], _∷_}
 use Prim.Native.Nat.{ℕ}
 use Prim.Native.Char.{code}
 use Prim.Native.String.{String, [] as no-char, _∷_ as _then-char_}
-use lib.Dec.{leb, eqb}
+use lib.Dec.{leb, ltb, eqb}
 
 -- the bytes of a text in ASCII
 abbrev pub ascii : String → List ℕ
@@ -57,6 +57,9 @@ same [] [] = true
 same [] (d ∷ s) = false
 same (c ∷ p) [] = false
 same (c ∷ p) (d ∷ s) = eqb c d && same p s
+
+abbrev pub isAscii : ℕ → Bool
+isAscii c = ltb c 128
 
 -- 0-9
 abbrev pub isDigit : ℕ → Bool

@@ -2,7 +2,7 @@
 -- Assumes nothing.
 use mathlib.Core.Path.{_≡_, refl, sym, _∙_, ap}
 use mathlib.Core.Bool.{Bool, true, false, _&&_, _||_, not, cond, and-eq-true-iff}
-use mathlib.Core.List.{List, [], _∷_, _++_}
+use mathlib.Core.List.{List, [], _∷_, _++_, append-nil}
 use mathlib.Core.Option.{Option, none, some}
 use Prim.Native.Nat.{ℕ, zero, suc, _+_, _*_, _-_, _≤_, _<_, zero-le, suc-le-suc}
 use native.Mathlib.Omega.{arith}
@@ -13,8 +13,8 @@ use lib.Dec.{leb, ltb, eqb}
 use lib.ListN.{length, take, drop, getD, length-append, length-drop, drop-of-length-le}
 use lib.Seq.{take-all, drop-cons, drop-drop, drop-append-seam, take-append-seam, drop-append-le, take-append-le, getD-append-seam}
 use borrow.Author.Tests.{lt-ltb, le-ltb, ltb-true, leb-true, le-leb, lt-leb, eqb-true, ne-eqb, not-true}
-use Rattle.kinds.specs.Bytes.{comma, rparen, between, all, isDigit, isLetter, isWordByte, isWord}
-use Rattle.model.specs.Text.{spanFrom, span, one, Char, char, noChar, isTail, tails, scalar, charOf, charLength, isBlank, blankLength, blank, skip, peek, wordLength, runByte, runLength, part}
+use Rattle.kinds.specs.Bytes.{comma, rparen, between, all, isAscii, isDigit, isLetter, isWordByte, isWord}
+use Rattle.model.specs.Text.{spanFrom, span, one, Char, char, noChar, isTail, tails, scalar, charOf, charLength, character, validLength, isBlank, blankLength, blank, skip, peek, wordLength, runByte, runLength, part}
 
 and-both : (x y : Bool) → (x && y) ≡ true → (x ≡ true) × (y ≡ true)
 and-both x y e = (and-eq-true-iff x y) .0 e
@@ -121,6 +121,17 @@ peek-inside s at b e h = elim (decLt at (length s)) [ yes p ↦ p | no p ↦ abs
     clash : length s ≤ at → ⊥
     clash q = omega (arith, peek-end s at q)
 
+-- For a loop that passes items of several bytes, handed the part from i on: m is the length that it was answered.
+module _ (f : List ℕ → ℕ) (t : List ℕ) (i n m : ℕ) (h : i ≤ length t) (e : m ≡ f (take (length t - i) (drop i t))) where
+  pub items-stop : m ≡ 0 → i + span f (drop i t) ≡ n → i ≡ n
+  items-stop z q = scan-none f t i n (sym (rw part-rest at e) ∙ z) q
+
+  pub items-more : (m ≡ 0 → ⊥) → m ≤ length (take (length t - i) (drop i t)) → i + span f (drop i t) ≡ n → i + m + span f (drop (i + m) t) ≡ n
+  items-more z l q = scan-item f t i m n (sym (rw part-rest at e)) (omega arith) (omega (arith, rw (part-rest, length-drop) at l)) q
+
+  pub items-inside : m ≤ length (take (length t - i) (drop i t)) → i + m ≤ length t
+  items-inside l = omega (arith, rw (part-rest, length-drop) at l)
+
 -- Characters.
 
 -- tail bytes lie within the list
@@ -162,6 +173,15 @@ char-inside (a ∷ t) =
     Inside : Char → Type 0
     Inside c = charLength c ≤ suc (length t)
 
+-- an ASCII text is valid
+character-ascii : (c : ℕ) (t : List ℕ) → isAscii c ≡ true → character (c ∷ t) ≡ 1
+unfolding character charOf
+character-ascii c t e = rw (character, charOf, e)
+
+pub valid-ascii : (s : List ℕ) → all isAscii s ≡ true → validLength s ≡ length s
+unfolding validLength character charOf
+valid-ascii s a = ap (span character) (sym (append-nil s)) ∙ omega (arith, span-bytes character isAscii character-ascii s [] a, span-none character [] refl)
+
 -- Blanks.
 
 -- an ASCII byte is a blank or not by itself
@@ -185,6 +205,10 @@ skip-le s at = omega arith
 pub skip-within : (s : List ℕ) (at : ℕ) → at ≤ length s → skip s at ≤ length s
 unfolding skip
 skip-within s at h = omega (arith, span-le blank (drop at s), length-drop at s)
+
+pub skip-part : (s : List ℕ) (at r : ℕ) → r ≡ span blank (take (length s - at) (drop at s)) → at + r ≡ skip s at
+unfolding skip
+skip-part s at r e = rw (e, part-rest)
 
 pub skip-none : (s : List ℕ) (at : ℕ) → blank (drop at s) ≡ 0 → skip s at ≡ at
 unfolding skip
@@ -287,4 +311,4 @@ pub run-written : (w t : List ℕ) → all isRunByte w ≡ true → runByte t �
 unfolding runLength
 run-written w t h e = omega (arith, span-bytes runByte isRunByte run-byte w t h, span-none runByte t e)
 
-pub ruleset scanning = (scan-none, scan-item, scan-end, bytes-stop, bytes-more, word-empty, word-none, word-first)
+pub ruleset scanning = (scan-none, scan-item, scan-end, bytes-stop, bytes-more, items-stop, items-more, items-inside, skip-part, word-empty, word-none, word-first)

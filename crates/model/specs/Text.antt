@@ -56,9 +56,13 @@ abbrev pub charLength : Char → ℕ
 charLength (char v n) = n
 charLength noChar = 0
 
+-- the length of the character that a list begins with, 0 if none
+unfoldable pub character : List ℕ → ℕ
+character t = charLength (charOf t)
+
 -- "the length of the longest valid prefix"
 unfoldable pub validLength : List ℕ → ℕ
-validLength t = span (λ u. charLength (charOf u)) t
+validLength t = span character t
 
 -- "A blank is a character with Unicode White_Space: 9 to 13, 32, and hex 85, A0, 1680, 2000 to 200A, 2028, 2029, 202F, 205F, 3000":
 -- white space

@@ -10,10 +10,9 @@ use lib.Dec.{leb, ltb, eqb}
 use lib.ListN.{length, take, drop, getD, length-take, drop-of-length-le}
 use lib.Seq.{drop-cons, take-suc, take-all, length-take-le}
 use borrow.Author.Tests.{lt-ltb, le-ltb, eq-eqb, ne-eqb, ltb-true, ltb-false}
-use Rattle.kinds.specs.Bytes.{all, same}
+use Rattle.kinds.specs.Bytes.{all, same, isAscii}
 use Rattle.kinds.proofs.Logic.{all-append, same-unequal}
 use Rattle.model.specs.KindText.{starts}
-use Rattle.text.specs.Found.{isAscii}
 
 pub same-lengths : (a b : List ℕ) → (length a ≡ length b → ⊥) → false ≡ same a b
 same-lengths a b h = sym (same-unequal a b (λ e. h (ap length e)))

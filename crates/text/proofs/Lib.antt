@@ -1,3 +1,4 @@
 pub mod Classes
 pub mod Compare
 pub mod Characters
+pub mod Skipping

@@ -5,12 +5,8 @@ use mathlib.Core.Bool.{Bool, true, false}
 use mathlib.Core.List.{List}
 use mathlib.Core.Option.{Option, none, some}
 use Prim.Native.Nat.{ℕ, zero, suc, _-_, _≤_}
-use lib.Dec.{ltb}
 use lib.ListN.{length}
-use Rattle.model.specs.Text.{Char, char, noChar, isTail, charOf}
-
-abbrev pub isAscii : ℕ → Bool
-isAscii c = ltb c 128
+use Rattle.model.specs.Text.{Char, char, noChar, isTail, charOf, skip}
 
 -- the six bits of a tail byte, and 64 if it is none
 unfoldable pub tailOf : ℕ → ℕ
@@ -30,3 +26,9 @@ charFrom v (suc n) = char v (suc n)
 pub record CharIs (t : List ℕ) (v n : ℕ) : Type 0 where
   pub same : charFrom v n ≡ charOf t
   pub inside : n ≤ length t
+
+-- the place behind the blanks, which lies between `at` and the end
+pub record Skipped (s : List ℕ) (at p : ℕ) : Type 0 where
+  pub place : p ≡ skip s at
+  pub low : at ≤ p
+  pub inside : p ≤ length s

@@ -2,11 +2,12 @@
 ghost use mathlib.Core.Path.{_≡_};
 ghost use mathlib.Core.Option.{some};
 ghost use Prim.Native.Nat.{_+_, _*_, _≤_, _<_};
-ghost use lib.ListN.{length};
-ghost use Rattle.kinds.specs.Bytes.{all, isDigit, isLetter, isWordByte, same};
-ghost use Rattle.model.specs.Text.{span, one, isTail, tails, scalar, validLength, isBlank, blank, skip, peek, wordLength, runLength};
+ghost use lib.Dec.{eqb};
+ghost use lib.ListN.{length, drop};
+ghost use Rattle.kinds.specs.Bytes.{all, isAscii, isDigit, isLetter, isWordByte, same};
+ghost use Rattle.model.specs.Text.{span, one, isTail, tails, scalar, validLength, isBlank, blank, skip, peek, wordLength, runByte, runLength};
 ghost use Rattle.model.specs.KindText.{starts};
-ghost use Rattle.text.specs.Found.{isAscii, tailOf, codeOf, charFrom, CharIs};
+ghost use Rattle.text.specs.Found.{tailOf, codeOf, charFrom, CharIs, Skipped};
 
 // 0-9
 pub fn is_digit(c: u8) -> bool
@@ -224,4 +225,118 @@ pub fn is_blank(code: u32) -> bool
         | 0x3000 => true,
         _ => false,
     }
+}
+
+// The length of the blank that a part begins with, 0 if none.
+pub fn blank(t: &[u8]) -> usize
+    ensures { λ r. ⌜ (r ≡ blank (now (t .entry))) × (r ≤ length (now (t .entry))) ⌝ }
+{
+    let c = char_of(t);
+    if is_blank(c.code) { c.len } else { 0 }
+}
+
+// How far the blanks reach that a part begins with.
+pub fn blanks(t: &[u8]) -> usize
+    ensures { λ r. ⌜ (r ≡ span blank (now (t .entry))) × (r ≤ length (now (t .entry))) ⌝ }
+{
+    let mut i = 0;
+    while i < t.len() {
+        let n = blank(&t[i..]);
+        if n == 0 {
+            return i;
+        }
+        i += n;
+    }
+    i
+}
+
+// The place behind the blanks at a place, whatever they are.
+pub fn skip_slowly(s: &[u8], at: usize) -> usize
+    requires { ⌜ at ≤ length (now s) ⌝ }
+    ensures { λ r. ⌜ Skipped (now (s .entry)) at r ⌝ }
+{
+    at + blanks(&s[at..])
+}
+
+// The same, quick where no blank or one space stands there.
+pub fn skip(s: &[u8], at: usize) -> usize
+    requires { ⌜ at ≤ length (now s) ⌝ }
+    ensures { λ r. ⌜ Skipped (now (s .entry)) at r ⌝ }
+{
+    if at < s.len() {
+        let c = s[at];
+        if 32 < c && c < 128 {
+            return at;
+        }
+        if c == 32 && at + 1 < s.len() {
+            let d = s[at + 1];
+            if 32 < d && d < 128 {
+                return at + 1;
+            }
+        }
+        return skip_slowly(s, at);
+    }
+    at
+}
+
+// The byte at a place, and 256 at the end.
+pub fn peek(s: &[u8], at: usize) -> u16
+    ensures { λ r. ⌜ r ≡ peek (now (s .entry)) at ⌝ }
+{
+    if at < s.len() { s[at] as u16 } else { 256 }
+}
+
+// The length of the longest valid prefix.
+pub fn valid_length(s: &[u8]) -> usize
+    ensures { λ r. ⌜ (r ≡ validLength (now (s .entry))) × (r ≤ length (now (s .entry))) ⌝ }
+{
+    if is_ascii(s) {
+        return s.len();
+    }
+    let mut i = 0;
+    while i < s.len() {
+        let c = char_of(&s[i..]);
+        let n = c.len;
+        if n == 0 {
+            return i;
+        }
+        i += n;
+    }
+    i
+}
+
+// Whether a run goes on at a place.
+fn in_run(t: &[u8], i: usize) -> bool
+    requires { ⌜ i < length (now t) ⌝ }
+    ensures { λ r. ⌜ r ≡ eqb (runByte (drop i (now (t .entry)))) 1 ⌝ }
+{
+    let c = t[i];
+    if 44 < c && c < 128 {
+        return true;
+    }
+    if c == 44 {
+        return false;
+    }
+    if c == 41 {
+        return false;
+    }
+    if 32 < c && c < 128 {
+        return true;
+    }
+    blank(&t[i..]) == 0
+}
+
+// How long the run is that a part begins with: up to a blank, `,` or `)`.
+pub fn run(t: &[u8]) -> usize
+    ensures { λ r. ⌜ (r ≡ runLength (now (t .entry))) × (r ≤ length (now (t .entry))) ⌝ }
+{
+    let mut i = 0;
+    while i < t.len() {
+        if in_run(t, i) {
+            i += 1;
+        } else {
+            return i;
+        }
+    }
+    i
 }

@@ -4,8 +4,7 @@ use mathlib.Core.Path.{_≡_}
 use Prim.Native.Nat.{_-_, _≤_}
 use lib.ListN.{length, take}
 use lib.Dec.{ltb}
-use Rattle.kinds.specs.Bytes.{all}
-use Rattle.text.specs.Found.{isAscii}
+use Rattle.kinds.specs.Bytes.{all, isAscii}
 use Rattle.text.proofs.Compare.{comparing, ascii-larger, ascii-smaller}
 use Rattle.text.proofs.is_ascii.Statement.{statement}
 use Rattle.text.proofs.is_ascii.Tie as tie

@@ -1,0 +1,121 @@
+-- Blanks and runs, by what the code looks at.
+-- Assumes nothing.
+use mathlib.Core.Path.{_≡_, refl, sym, _∙_, ap}
+use mathlib.Core.Bool.{Bool, true, false, _||_, not}
+use mathlib.Core.List.{List, [], _∷_}
+use Prim.Native.Nat.{ℕ, zero, suc, _+_, _-_, _≤_, _<_}
+use native.Mathlib.Omega.{arith}
+use native.Mathlib.Nat.{zero-add}
+use native.Mathlib.Numerals.{add-one}
+use lib.Dec.{eqb}
+use lib.ListN.{length, take, drop, getD, length-drop}
+use lib.Seq.{drop-cons}
+use borrow.Author.Tests.{eq-eqb, ne-eqb, eqb-true, eqb-false}
+use Rattle.kinds.specs.Bytes.{all, isAscii, comma, rparen}
+use Rattle.model.specs.Text.{span, charOf, charLength, character, validLength, isBlank, blankLength, blank, skip, peek, runByte, runLength}
+use Rattle.model.proofs.Scans.{span-le, blank-ascii, blank-plain, skip-le, skip-within, skip-none, skip-space, skip-part, peek-byte, peek-end, part-rest, scan-none, scan-item, valid-ascii}
+use Rattle.text.specs.Found.{charFrom, CharIs, Skipped}
+
+module _ (t : List ℕ) (v n : ℕ) (r : Bool) (i : CharIs t v n) (e : r ≡ isBlank v) where
+  pub blank-yes : r ≡ true → n ≡ blank t
+  unfolding blank charFrom
+  blank-yes w = rw (← i .same) (go n)
+    where
+      go : (m : ℕ) → m ≡ blankLength (charFrom v m)
+      go zero = refl
+      go (suc m) = rw (blankLength, ← e, w)
+
+  pub blank-no : r ≡ false → 0 ≡ blank t
+  unfolding blank charFrom
+  blank-no w = rw (← i .same) (go n)
+    where
+      go : (m : ℕ) → 0 ≡ blankLength (charFrom v m)
+      go zero = refl
+      go (suc m) = rw (blankLength, ← e, w)
+
+-- the length of a character
+pub char-length : (t : List ℕ) (v n : ℕ) → CharIs t v n → n ≡ character t
+unfolding character charFrom
+char-length t v n i = rw (← i .same) (go n)
+  where
+    go : (m : ℕ) → m ≡ charLength (charFrom v m)
+    go zero = refl
+    go (suc m) = refl
+
+pub valid-whole : (s : List ℕ) (r : Bool) → r ≡ all isAscii s → r ≡ true → length s ≡ validLength s
+valid-whole s r e w = sym (valid-ascii s (sym e ∙ w))
+
+-- the place behind the blanks
+skipped : (s : List ℕ) (at p : ℕ) → at ≤ length s → p ≡ skip s at → Skipped s at p
+skipped s at p h e = record { place = e; low = rw e (skip-le s at); inside = rw e (skip-within s at h) }
+
+pub skipped-slowly : (s : List ℕ) (at r : ℕ) → at ≤ length s → r ≡ span blank (take (length s - at) (drop at s)) → Skipped s at (at + r)
+skipped-slowly s at r h e = skipped s at (at + r) h (skip-part s at r e)
+
+pub skipped-none : (s : List ℕ) (at : ℕ) → at < length s → 32 < getD s at 0 → getD s at 0 < 128 → Skipped s at at
+skipped-none s at h k l = skipped s at at (omega arith) (sym (skip-none s at (rw (drop-cons s at 0 h) (blank-plain (getD s at 0) (drop (suc at) s) (omega arith) l))))
+
+pub skipped-space : (s : List ℕ) (at : ℕ) → at + 1 < length s → getD s at 0 ≡ 32 → 32 < getD s (at + 1) 0 → getD s (at + 1) 0 < 128 → Skipped s at (at + 1)
+skipped-space s at h e k l =
+    let f : drop at s ≡ 32 ∷ drop (at + 1) s = rw add-one (drop-cons s at 0 (omega arith) ∙ rw e) in
+    skipped s at (at + 1) (omega arith) (sym (skip-space s at (drop (at + 1) s) f (rw (drop-cons s (at + 1) 0 h) (blank-plain (getD s (at + 1) 0) (drop (suc (at + 1)) s) (omega arith) l))))
+
+pub skipped-end : (s : List ℕ) (at : ℕ) → at ≤ length s → length s ≤ at → Skipped s at at
+unfolding skip
+skipped-end s at h k = skipped s at at h (omega (arith, span-le blank (drop at s), length-drop at s))
+
+pub peek-here : (s : List ℕ) (at : ℕ) → at < length s → getD s at 0 ≡ peek s at
+peek-here s at h = sym (peek-byte s at (getD s at 0) (drop (suc at) s) (drop-cons s at 0 h))
+
+pub peek-past : (s : List ℕ) (at : ℕ) → length s ≤ at → 256 ≡ peek s at
+peek-past s at h = sym (peek-end s at h)
+
+-- a run goes on, or not, at a place
+module _ (t : List ℕ) (i : ℕ) (h : i < length t) where
+  pub run-plain : 32 < getD t i 0 → getD t i 0 < 128 → (getD t i 0 ≡ 44 → ⊥) → (getD t i 0 ≡ 41 → ⊥) → true ≡ eqb (runByte (drop i t)) 1
+  run-plain k l m n =
+      rw (drop-cons t i 0 h, runByte, ne-eqb (getD t i 0) 44 m, ne-eqb (getD t i 0) 41 n, blank-plain (getD t i 0) (drop (suc i) t) (omega arith) l)
+
+  pub run-high : 44 < getD t i 0 → getD t i 0 < 128 → true ≡ eqb (runByte (drop i t)) 1
+  run-high k l = run-plain (omega arith) l (λ e. omega arith) (λ e. omega arith)
+
+  pub run-comma : getD t i 0 ≡ 44 → false ≡ eqb (runByte (drop i t)) 1
+  run-comma e = rw (drop-cons t i 0 h, runByte, e)
+
+  pub run-paren : getD t i 0 ≡ 41 → false ≡ eqb (runByte (drop i t)) 1
+  run-paren e = rw (drop-cons t i 0 h, runByte, e)
+
+  pub run-slow : (m : ℕ) → (getD t i 0 ≡ 44 → ⊥) → (getD t i 0 ≡ 41 → ⊥) → m ≡ blank (take (length t - i) (drop i t)) → eqb m 0 ≡ eqb (runByte (drop i t)) 1
+  run-slow m k n e =
+      let f : m ≡ blank (getD t i 0 ∷ drop (suc i) t) = rw (part-rest, drop-cons t i 0 h) at e in
+      rw (drop-cons t i 0 h, runByte, ne-eqb (getD t i 0) 44 k, ne-eqb (getD t i 0) 41 n, ← f) (go (eqb m 0))
+    where
+      go : (b : Bool) → b ≡ eqb (elim (not b) [ true ↦ 0 | false ↦ 1 ]) 1
+      go true = refl
+      go false = refl
+
+run-bit : (t : List ℕ) → eqb (runByte t) 1 ≡ false → runByte t ≡ 0
+run-bit [] e = refl
+run-bit (c ∷ t) e = go (eqb c comma || (eqb c rparen || not (eqb (blank (c ∷ t)) 0))) refl
+  where
+    go : (b : Bool) → (eqb c comma || (eqb c rparen || not (eqb (blank (c ∷ t)) 0))) ≡ b → runByte (c ∷ t) ≡ 0
+    go true q = rw (runByte, q)
+    go false q = let z : true ≡ false = rw (runByte, q) at e in let y : _≡_ {A = ℕ} 0 1 = cc in absurd (omega arith)
+
+module _ (t : List ℕ) (i n : ℕ) (r : Bool) (e : r ≡ eqb (runByte (drop i t)) 1) where
+  pub run-stop : r ≡ false → i + span runByte (drop i t) ≡ n → i ≡ n
+  run-stop w q = scan-none runByte t i n (run-bit (drop i t) (sym e ∙ w)) q
+
+  pub run-more : i < length t → r ≡ true → i + span runByte (drop i t) ≡ n → i + 1 + span runByte (drop (i + 1) t) ≡ n
+  run-more h w q = scan-item runByte t i 1 n (eqb-true (runByte (drop i t)) 1 (sym e ∙ w)) (omega arith) (omega arith) q
+
+-- where the loops begin
+pub run-start : (t : List ℕ) → 0 + span runByte (drop 0 t) ≡ runLength t
+unfolding runLength
+run-start t = zero-add _
+
+pub valid-start : (t : List ℕ) → 0 + span character (drop 0 t) ≡ validLength t
+unfolding validLength
+valid-start t = zero-add _
+
+pub ruleset skipping = (run-start, valid-start, blank-yes, blank-no, char-length, valid-whole, skipped-slowly, skipped-none, skipped-space, skipped-end, peek-here, peek-past, run-plain, run-high, run-comma, run-paren, run-slow, run-stop, run-more)
