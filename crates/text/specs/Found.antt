@@ -4,8 +4,13 @@ use mathlib.Core.Path.{_≡_}
 use mathlib.Core.Bool.{Bool, true, false}
 use mathlib.Core.List.{List}
 use mathlib.Core.Option.{Option, none, some}
-use Prim.Native.Nat.{ℕ, zero, suc, _-_, _≤_}
+use Prim.Native.Nat.{ℕ, zero, suc, _+_, _*_, _-_, _≤_, _<_}
+use lib.Dec.{ltb}
 use lib.ListN.{length}
+use Rattle.kinds.specs.Bytes.{isDigit}
+use Rattle.kinds.specs.Decimal.{atMost}
+use Rattle.text.specs.declared.Maybe.{Maybe}
+use Rattle.text.specs.declared.Maybe.the-variants.{Value, Absent}
 use Rattle.model.specs.Text.{Char, char, noChar, isTail, charOf, skip}
 
 -- the six bits of a tail byte, and 64 if it is none
@@ -32,3 +37,18 @@ pub record Skipped (s : List ℕ) (at p : ℕ) : Type 0 where
   pub place : p ≡ skip s at
   pub low : at ≤ p
   pub inside : p ≤ length s
+
+-- what the cases of a number say
+unfoldable pub toOption : Maybe → Option ℕ
+toOption (Value v) = some v
+toOption Absent = none
+
+-- one more digit: if n is the number x within the limit m, r is x * 10 + d within it
+pub record Pushed (m : ℕ) (n : Maybe) (d : ℕ) (r : Maybe) : Type 0 where
+  pub more : (x : ℕ) → toOption n ≡ atMost m (some x) → toOption r ≡ atMost m (some (x * 10 + d))
+
+-- the value of a digit, and 10 for any other byte
+pub record DigitIs (c d : ℕ) : Type 0 where
+  pub same : isDigit c ≡ ltb d 10
+  pub value : d < 10 → d ≡ c - 48
+  pub small : d ≤ 10

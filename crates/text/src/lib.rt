@@ -5,9 +5,10 @@ ghost use Prim.Native.Nat.{_+_, _*_, _≤_, _<_};
 ghost use lib.Dec.{eqb};
 ghost use lib.ListN.{length, drop};
 ghost use Rattle.kinds.specs.Bytes.{all, isAscii, isDigit, isLetter, isWordByte, same};
+ghost use Rattle.kinds.specs.Decimal.{plain, number};
 ghost use Rattle.model.specs.Text.{span, one, isTail, tails, scalar, validLength, isBlank, blank, skip, peek, wordLength, runByte, runLength};
 ghost use Rattle.model.specs.KindText.{starts};
-ghost use Rattle.text.specs.Found.{tailOf, codeOf, charFrom, CharIs, Skipped};
+ghost use Rattle.text.specs.Found.{tailOf, codeOf, charFrom, CharIs, Skipped, toOption, Pushed, DigitIs};
 
 // 0-9
 pub fn is_digit(c: u8) -> bool
@@ -339,4 +340,77 @@ pub fn run(t: &[u8]) -> usize
         }
     }
     i
+}
+
+// Numbers.
+
+// A number that may be absent.
+pub enum Maybe {
+    Value(u64),
+    Absent,
+}
+
+// One more digit behind a number, absent where the limit is passed.
+fn push(limit: u64, n: Maybe, d: u64) -> Maybe
+    requires { ⌜ d < 10 ⌝ }
+    ensures { λ r. ⌜ Pushed limit n d r ⌝ }
+{
+    match n {
+        Maybe::Value(v) => {
+            if limit < d {
+                return Maybe::Absent;
+            }
+            if (limit - d) / 10 < v {
+                return Maybe::Absent;
+            }
+            Maybe::Value(v * 10 + d)
+        }
+        Maybe::Absent => Maybe::Absent,
+    }
+}
+
+// The value of a digit, and 10 for any other byte.
+fn digit(c: u8) -> u64
+    ensures { λ r. ⌜ DigitIs c r ⌝ }
+{
+    if c < 48 {
+        return 10;
+    }
+    if 57 < c {
+        return 10;
+    }
+    (c - 48) as u64
+}
+
+// Digits alone, with a value of at most the limit; leading zeros do not count.
+pub fn plain(limit: u64, t: &[u8]) -> Maybe
+    ensures { λ r. ⌜ toOption r ≡ plain limit (now (t .entry)) ⌝ }
+{
+    if t.len() == 0 {
+        return Maybe::Absent;
+    }
+    let mut n = Maybe::Value(0);
+    let mut i = 0;
+    while i < t.len() {
+        let d = digit(t[i]);
+        if d == 10 {
+            return Maybe::Absent;
+        }
+        n = push(limit, n, d);
+        i += 1;
+    }
+    n
+}
+
+// An optional `+` and digits.
+pub fn number(limit: u64, t: &[u8]) -> Maybe
+    ensures { λ r. ⌜ toOption r ≡ number limit (now (t .entry)) ⌝ }
+{
+    if t.len() == 0 {
+        return Maybe::Absent;
+    }
+    if t[0] == 43 {
+        return plain(limit, &t[1..]);
+    }
+    plain(limit, t)
 }
