@@ -6,3 +6,6 @@ pub mod Holds
 pub mod Bounds
 pub mod Readers
 pub mod Sound
+pub mod Pieces
+pub mod Decoding
+pub mod Records

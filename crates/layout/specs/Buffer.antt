@@ -1,0 +1,22 @@
+-- What a lent buffer holds after bytes were put into it.
+-- Assumes nothing.
+use mathlib.Core.List.{List, [], _∷_, _++_}
+use Prim.Native.Nat.{ℕ, _+_, _-_}
+use lib.ListN.{length, take, drop}
+use Rattle.model.specs.Layout.{littleEndian}
+
+-- the bytes u in the place of those at o
+unfoldable pub put : ℕ → List ℕ → List ℕ → List ℕ
+put o u b = take o b ++ (u ++ drop (o + length u) b)
+
+-- the bytes from `at` up to `end` once more, n bytes further
+unfoldable pub shifted : ℕ → ℕ → ℕ → List ℕ → List ℕ
+shifted at end n b = put (at + n) (take (end - at) (drop at b)) b
+
+-- the bytes u before those from `at` up to `end`
+unfoldable pub inserted : ℕ → ℕ → List ℕ → List ℕ → List ℕ
+inserted at end u b = put at (u ++ take (end - at) (drop at b)) b
+
+-- the head of a record: its whole length in 4 bytes, and its kind
+unfoldable pub head : ℕ → ℕ → List ℕ
+head n k = littleEndian 4 n ++ littleEndian 2 k
