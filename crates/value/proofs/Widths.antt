@@ -1,0 +1,120 @@
+-- Widths, byte lengths and the kinds that have them, by the tests that the code makes.
+-- Assumes nothing.
+use mathlib.Core.Path.{_≡_, refl, sym, _∙_, ap}
+use mathlib.Core.Bool.{Bool, true, false}
+use mathlib.Core.List.{List, [], _∷_}
+use mathlib.Core.Option.{Option, none, some}
+use Prim.Native.Nat.{ℕ, zero, suc, _%_, _≤_, _<_}
+use native.Mathlib.Omega.{arith}
+use lib.Dec.{eqb}
+use lib.ListN.{length}
+use borrow.Author.Tests.{le-leb, lt-leb, eq-eqb, ne-eqb}
+use Rattle.kinds.specs.Kind.{BitWidth as KindWidth, isBitWidth, isByteLength, Elementary, int, uint}
+use Rattle.kinds.specs.Decimal.{number}
+use Rattle.kinds.proofs.Decimal.{number-bound}
+use Rattle.model.specs.declared.Refusal.the-variants.{InvalidBitWidth, InvalidByteLength}
+use Rattle.text.specs.Found.{toOption}
+use Rattle.text.specs.declared.Maybe.{Maybe}
+use Rattle.text.specs.declared.Maybe.the-variants.{Value, Absent}
+use Rattle.value.specs.declared.BitWidth.{BitWidth}
+use Rattle.value.specs.declared.ByteLength.{ByteLength}
+use Rattle.value.specs.declared.CheckedWidth.{CheckedWidth}
+use Rattle.value.specs.declared.CheckedWidth.the-variants as width
+use Rattle.value.specs.declared.CheckedLength.{CheckedLength}
+use Rattle.value.specs.declared.CheckedLength.the-variants as len
+use Rattle.value.specs.declared.Base.the-variants as base
+use Rattle.value.specs.declared.Spelled.the-variants as spelled
+use Rattle.value.specs.Elementary.{toElementary, toResult, widthNumber, lengthNumber, ofWidth, ofLength, widthOf, checkedWidth, lengthOf, checkedLength, checkedBy, widthBehind, lengthBehind}
+
+pub width-low : (n : ℕ) → n < 8 → widthOf width.Invalid ≡ checkedWidth n
+unfolding widthOf checkedWidth
+width-low zero h = refl
+width-low (suc n) h = rw (checkedWidth, le-leb 1 (suc n) (omega arith), le-leb (suc n) 256 (omega arith), ne-eqb (suc n % 8) 0 (λ e. omega arith))
+
+pub width-high : (n : ℕ) → 8 ≤ n → 256 < n → widthOf width.Invalid ≡ checkedWidth n
+unfolding widthOf checkedWidth
+width-high n h k = rw (checkedWidth, le-leb 1 n (omega arith), lt-leb n 256 k)
+
+pub width-valid : (w : BitWidth) → 8 ≤ widthNumber w → widthNumber w ≤ 256 → widthNumber w % 8 ≡ 0 → widthOf (width.Valid w) ≡ checkedWidth (widthNumber w)
+unfolding widthOf checkedWidth
+width-valid w h k e = rw (checkedWidth, le-leb 1 (widthNumber w) (omega arith), le-leb (widthNumber w) 256 k, e)
+
+pub width-odd : (n : ℕ) → 8 ≤ n → n ≤ 256 → (n % 8 ≡ 0 → ⊥) → widthOf width.Invalid ≡ checkedWidth n
+unfolding widthOf checkedWidth
+width-odd n h k e = rw (checkedWidth, le-leb 1 n (omega arith), le-leb n 256 k, ne-eqb (n % 8) 0 e)
+
+pub length-low : (n : ℕ) → n < 1 → lengthOf len.Invalid ≡ checkedLength n
+unfolding lengthOf checkedLength
+length-low n h = rw (checkedLength, lt-leb 1 n h)
+
+pub length-high : (n : ℕ) → 1 ≤ n → 32 < n → lengthOf len.Invalid ≡ checkedLength n
+unfolding lengthOf checkedLength
+length-high n h k = rw (checkedLength, le-leb 1 n h, lt-leb n 32 k)
+
+pub length-valid : (n : ByteLength) → 1 ≤ lengthNumber n → lengthNumber n ≤ 32 → lengthOf (len.Valid n) ≡ checkedLength (lengthNumber n)
+unfolding lengthOf checkedLength
+length-valid n h k = rw (checkedLength, le-leb 1 (lengthNumber n) h, le-leb (lengthNumber n) 32 k)
+
+-- the number behind a word
+module _ (t : List ℕ) where
+  pub behind-none : (r : CheckedWidth) → length t ≡ 0 → widthOf r ≡ checkedWidth 256 → widthOf r ≡ widthBehind t
+  unfolding widthBehind checkedWidth
+  behind-none r h e = go t h
+    where
+      go : (u : List ℕ) → length u ≡ 0 → widthOf r ≡ widthBehind u
+      go [] k = e
+      go (c ∷ u) k = absurd (omega arith)
+
+  behind : (n : Maybe) (o : Option ℕ) → (length t ≡ 0 → ⊥) → toOption n ≡ number 256 t → toOption n ≡ o → widthBehind t ≡ checkedBy checkedWidth o
+  unfolding widthBehind
+  behind n o z e f = go t z (sym e ∙ f)
+    where
+      go : (u : List ℕ) → (length u ≡ 0 → ⊥) → number 256 u ≡ o → widthBehind u ≡ checkedBy checkedWidth o
+      go [] y g = absurd (y refl)
+      go (c ∷ u) y g = rw g
+
+  pub behind-absent : (n : Maybe) → (length t ≡ 0 → ⊥) → toOption n ≡ number 256 t → n ≡ Absent → widthOf width.Invalid ≡ widthBehind t
+  unfolding toOption widthOf
+  behind-absent n z e f = sym (behind n none z e (rw f))
+
+  pub behind-value : (n : Maybe) (v : ℕ) (r : CheckedWidth) → (length t ≡ 0 → ⊥) → toOption n ≡ number 256 t → n ≡ Value v → widthOf r ≡ checkedWidth v → widthOf r ≡ widthBehind t
+  unfolding toOption
+  behind-value n v r z e f g = g ∙ sym (behind n (some v) z e (rw f))
+
+  -- what was read within a limit is
+  pub limit-value : (m : ℕ) (n : Maybe) (v : ℕ) → toOption n ≡ number m t → n ≡ Value v → v ≤ m
+  unfolding toOption
+  limit-value m n v e f = number-bound m t v (sym e ∙ rw f)
+
+  pub length-absent : (n : Maybe) → toOption n ≡ number 32 t → n ≡ Absent → lengthOf len.Invalid ≡ lengthBehind t
+  unfolding toOption lengthOf lengthBehind
+  length-absent n e f = rw (← e, f)
+
+  pub length-value : (n : Maybe) (v : ℕ) (r : CheckedLength) → toOption n ≡ number 32 t → n ≡ Value v → lengthOf r ≡ checkedLength v → lengthOf r ≡ lengthBehind t
+  unfolding toOption lengthBehind
+  length-value n v r e f g = g ∙ rw (← e, f)
+
+-- kinds of a width or a length
+module _ (w : CheckedWidth) where
+  pub of-int : (n : BitWidth) → w ≡ width.Valid n → toResult (spelled.Kind (base.Int n)) ≡ ofWidth int (widthOf w)
+  unfolding widthOf toResult toElementary
+  of-int n e = rw e
+
+  pub of-uint : (n : BitWidth) → w ≡ width.Valid n → toResult (spelled.Kind (base.Uint n)) ≡ ofWidth uint (widthOf w)
+  unfolding widthOf toResult toElementary
+  of-uint n e = rw e
+
+  pub of-no-width : (f : KindWidth → Elementary) → w ≡ width.Invalid → toResult (spelled.Refused InvalidBitWidth) ≡ ofWidth f (widthOf w)
+  unfolding widthOf toResult
+  of-no-width f e = rw e
+
+module _ (l : CheckedLength) where
+  pub of-length : (n : ByteLength) → l ≡ len.Valid n → toResult (spelled.Kind (base.FixedBytes n)) ≡ ofLength (lengthOf l)
+  unfolding lengthOf toResult toElementary
+  of-length n e = rw e
+
+  pub of-no-length : l ≡ len.Invalid → toResult (spelled.Refused InvalidByteLength) ≡ ofLength (lengthOf l)
+  unfolding lengthOf toResult
+  of-no-length e = rw e
+
+pub ruleset widths = (width-low, width-high, width-valid, width-odd, length-low, length-high, length-valid, behind-none, behind-absent, behind-value, length-absent, length-value, of-int, of-uint, of-no-width, of-length, of-no-length)

@@ -1,0 +1,170 @@
+// Kinds as `ValueKind::from_str` reads them, written as records, and the kind call.
+use model::Refusal;
+use text::Maybe;
+ghost use mathlib.Core.Path.{_≡_};
+ghost use Prim.Native.Nat.{_+_, _≤_, _<_};
+ghost use lib.ListN.{length};
+ghost use Rattle.value.specs.Elementary.{widthOf, checkedWidth, lengthOf, checkedLength, toResult, elementaryOf, widthNumber, lengthNumber, widthBehind, lengthBehind, ofWidth, ofLength};
+ghost use Rattle.kinds.specs.Kind.{int as intKind, uint as uintKind};
+
+// A bit width of `int` and `uint`, made by its check alone.
+pub struct BitWidth(u32);
+
+// A byte length of `bytes`, made by its check alone.
+pub struct ByteLength(usize);
+
+pub enum CheckedWidth {
+    Valid(BitWidth),
+    Invalid,
+}
+
+pub enum CheckedLength {
+    Valid(ByteLength),
+    Invalid,
+}
+
+impl BitWidth {
+    // Bit widths are multiples of 8 from 8 to 256.
+    pub fn new(bit_width: u32) -> CheckedWidth
+        ensures { λ r. ⌜ widthOf r ≡ checkedWidth «bit_width» ⌝ }
+    {
+        if bit_width < 8 {
+            return CheckedWidth::Invalid;
+        }
+        if 256 < bit_width {
+            return CheckedWidth::Invalid;
+        }
+        if bit_width % 8 == 0 {
+            return CheckedWidth::Valid(BitWidth(bit_width));
+        }
+        CheckedWidth::Invalid
+    }
+
+    pub fn get(self) -> u32
+        ensures { λ r. ⌜ r ≡ widthNumber self ⌝ }
+    {
+        self.0
+    }
+}
+
+impl ByteLength {
+    // Byte lengths go from 1 to 32.
+    pub fn new(len: usize) -> CheckedLength
+        ensures { λ r. ⌜ lengthOf r ≡ checkedLength len ⌝ }
+    {
+        if len < 1 {
+            return CheckedLength::Invalid;
+        }
+        if 32 < len {
+            return CheckedLength::Invalid;
+        }
+        CheckedLength::Valid(ByteLength(len))
+    }
+
+    pub fn get(self) -> usize
+        ensures { λ r. ⌜ r ≡ lengthNumber self ⌝ }
+    {
+        self.0
+    }
+}
+
+// A kind that holds no kind.
+pub enum Base {
+    Int(BitWidth),
+    Uint(BitWidth),
+    Address,
+    Bool,
+    FixedBytes(ByteLength),
+    Function,
+    Bytes,
+    String,
+}
+
+// What a text without suffixes is read as.
+pub enum Spelled {
+    Kind(Base),
+    Refused(Refusal),
+}
+
+// The width behind `int` or `uint`: 256 where there is none.
+fn width_behind(t: &[u8]) -> CheckedWidth
+    ensures { λ r. ⌜ widthOf r ≡ widthBehind (now (t .entry)) ⌝ }
+{
+    if t.len() == 0 {
+        return BitWidth::new(256);
+    }
+    let n = text::number(256, t);
+    match n {
+        Maybe::Value(v) => BitWidth::new(v as u32),
+        Maybe::Absent => CheckedWidth::Invalid,
+    }
+}
+
+// The length behind `bytes`.
+fn length_behind(t: &[u8]) -> CheckedLength
+    ensures { λ r. ⌜ lengthOf r ≡ lengthBehind (now (t .entry)) ⌝ }
+{
+    let n = text::number(32, t);
+    match n {
+        Maybe::Value(v) => ByteLength::new(v as usize),
+        Maybe::Absent => CheckedLength::Invalid,
+    }
+}
+
+fn int(w: CheckedWidth) -> Spelled
+    ensures { λ r. ⌜ toResult r ≡ ofWidth intKind (widthOf w) ⌝ }
+{
+    match w {
+        CheckedWidth::Valid(n) => Spelled::Kind(Base::Int(n)),
+        CheckedWidth::Invalid => Spelled::Refused(Refusal::InvalidBitWidth),
+    }
+}
+
+fn uint(w: CheckedWidth) -> Spelled
+    ensures { λ r. ⌜ toResult r ≡ ofWidth uintKind (widthOf w) ⌝ }
+{
+    match w {
+        CheckedWidth::Valid(n) => Spelled::Kind(Base::Uint(n)),
+        CheckedWidth::Invalid => Spelled::Refused(Refusal::InvalidBitWidth),
+    }
+}
+
+fn fixed_bytes(n: CheckedLength) -> Spelled
+    ensures { λ r. ⌜ toResult r ≡ ofLength (lengthOf n) ⌝ }
+{
+    match n {
+        CheckedLength::Valid(len) => Spelled::Kind(Base::FixedBytes(len)),
+        CheckedLength::Invalid => Spelled::Refused(Refusal::InvalidByteLength),
+    }
+}
+
+// A text without suffixes, as an elementary kind.
+pub fn elementary(t: &[u8]) -> Spelled
+    ensures { λ r. ⌜ toResult r ≡ elementaryOf (now (t .entry)) ⌝ }
+{
+    if text::begins(b"uint", t) {
+        return uint(width_behind(&t[4..]));
+    }
+    if text::equal(b"address", t) {
+        return Spelled::Kind(Base::Address);
+    }
+    if text::begins(b"bytes", t) {
+        if t.len() == 5 {
+            return Spelled::Kind(Base::Bytes);
+        }
+        return fixed_bytes(length_behind(&t[5..]));
+    }
+    if text::equal(b"bool", t) {
+        return Spelled::Kind(Base::Bool);
+    }
+    if text::equal(b"string", t) {
+        return Spelled::Kind(Base::String);
+    }
+    if text::begins(b"int", t) {
+        return int(width_behind(&t[3..]));
+    }
+    if text::equal(b"function", t) {
+        return Spelled::Kind(Base::Function);
+    }
+    Spelled::Refused(Refusal::Unknown)
+}
