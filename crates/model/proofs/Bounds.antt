@@ -4,14 +4,14 @@ use mathlib.Core.Path.{_≡_, refl, _∙_, ap, subst}
 use mathlib.Core.Bool.{Bool, true, false, _&&_}
 use mathlib.Core.List.{List, [], _∷_, _++_}
 use mathlib.Core.Option.{Option, none, some}
-use Prim.Native.Nat.{ℕ, zero, suc, _+_, _*_, _≤_}
+use Prim.Native.Nat.{ℕ, zero, suc, _+_, _*_, _≤_, _<_}
 use native.Mathlib.Omega.{arith}
 use lib.Dec.{leb, eqb}
 use lib.ListN.{length, take, drop, length-append, length-take}
 use borrow.Author.Tests.{leb-true, le-leb}
 use Rattle.kinds.specs.Bytes.{ascii, lbracket, rbracket, all, same}
 use Rattle.kinds.specs.Decimal.{plain, number, unsigned, afterPlus, atMost}
-use Rattle.kinds.specs.Kind.{BitWidth, bits, octets, isBitWidth, isByteLength, isElementary, Elementary, int, uint, fixedBytes, address, bool, bytes, string, Suffix, unsized}
+use Rattle.kinds.specs.Kind.{BitWidth, bits, octets, isBitWidth, isByteLength, isElementary, Elementary, int, uint, fixedBytes, address, bool, bytes, string, Suffix, sized, unsized}
 use Rattle.kinds.proofs.Logic.{both, left, right, all-append, same-equal}
 use Rattle.model.specs.Tree.{Base, field}
 use Rattle.model.specs.KindText.{Result, ok, err, onResult, Entry, entry, lookup, kindWords, Cut, cut, uncut, cutAfter, cutLast, stripStep, strip, longest, sizedBy, inside, shut, Peeled, peeled, bare, peelBy, peelAt, peel, starts, width, byteLength, withNumber, Spelled, addSuffix, unsuffixed, fromStrBy, fromStrIn, fromStr}
@@ -149,6 +149,16 @@ peel-of t = go (cutLast lbracket t) (cut-of lbracket t)
     go : (r : Cut) → Cuts t r → PeelsTo t (peelAt r)
     go uncut h = tt
     go (cut a b) h = shut-of a b h (strip rbracket b) (strip-of rbracket b)
+
+-- what is left is shorter
+pub peel-shorter : (t a : List ℕ) (o : Suffix) → peel t ≡ peeled a o → length a < length t
+unfolding encodeSuffix
+peel-shorter t a (sized n) e =
+    let p : Peels t a (sized n) = subst (PeelsTo t) e (peel-of t) in
+    omega (arith, p .paid, record-size 0xA (littleEndian 8 n))
+peel-shorter t a unsized e =
+    let p : Peels t a unsized = subst (PeelsTo t) e (peel-of t) in
+    omega (arith, p .paid, record-size 0xB [])
 
 -- Elementary kinds.
 

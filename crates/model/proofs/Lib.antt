@@ -6,6 +6,12 @@ pub mod Holds
 pub mod Bounds
 pub mod Readers
 pub mod Sound
+pub mod Suffixes
 pub mod Pieces
 pub mod Decoding
 pub mod Records
+pub mod Stands
+pub mod KindBack
+pub mod Readback
+pub mod Spelling
+pub mod Lines

@@ -124,6 +124,14 @@ withNumber t =
           ]
     ]
 
+-- a text without suffixes: a word, or a word with a number
+abbrev pub orNumber : List ℕ → Option Elementary → Result Elementary
+orNumber t (some e) = ok e
+orNumber t none = withNumber t
+
+unfoldable pub elementaryOf : List ℕ → Result Elementary
+elementaryOf t = orNumber t (lookup kindWords t)
+
 -- an elementary kind and its suffixes, innermost first
 pub record Spelled : Type 0 where
   pub kind : Elementary

@@ -10,3 +10,4 @@ pub mod Answer
 pub mod Calls
 pub mod Message
 pub mod Deposit
+pub mod Written

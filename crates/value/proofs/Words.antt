@@ -14,14 +14,14 @@ use Rattle.kinds.specs.Decimal.{number}
 use Rattle.kinds.specs.Kind.{BitWidth as KindWidth, Elementary, int, uint, address, bool, function, bytes, string, isBitWidth, isByteLength}
 use Rattle.kinds.proofs.Logic.{same-self, same-equal, same-unequal}
 use Rattle.model.specs.declared.Refusal.the-variants.{Unknown}
-use Rattle.model.specs.KindText.{Result, ok, err, starts, width, byteLength, lookup, kindWords, withNumber}
+use Rattle.model.specs.KindText.{Result, ok, err, starts, width, byteLength, lookup, kindWords, withNumber, elementaryOf}
 use Rattle.model.proofs.Scans.{part-rest}
 use Rattle.value.specs.declared.Base.the-variants as base
 use Rattle.value.specs.declared.Spelled.{Spelled}
 use Rattle.value.specs.declared.Spelled.the-variants as spelled
 use Rattle.value.specs.declared.CheckedWidth.{CheckedWidth}
 use Rattle.value.specs.declared.CheckedLength.{CheckedLength}
-use Rattle.value.specs.Elementary.{toElementary, toResult, widthOf, lengthOf, checkedWidth, checkedLength, checkedBy, widthBehind, lengthBehind, ofWidth, ofLength, elementaryOf}
+use Rattle.value.specs.Elementary.{toElementary, toResult, widthOf, lengthOf, checkedWidth, checkedLength, checkedBy, widthBehind, lengthBehind, ofWidth, ofLength}
 
 -- a text that begins with a word is the word and what is left
 split : (w t : List ℕ) → starts w t ≡ true → t ≡ w ++ drop (length w) t

@@ -7,7 +7,7 @@ use Prim.Native.Nat.{ℕ}
 use Rattle.kinds.specs.Kind.{BitWidth as KindWidth, bits, octets, isBitWidth, isByteLength, Elementary, int, uint, fixedBytes, address, bool, function, bytes, string}
 use Rattle.kinds.specs.Decimal.{number}
 use Rattle.model.specs.declared.Refusal.the-variants.{InvalidBitWidth, InvalidByteLength}
-use Rattle.model.specs.KindText.{Result, ok, err, lookup, kindWords, withNumber}
+use Rattle.model.specs.KindText.{Result, ok, err}
 use Rattle.value.specs.declared.BitWidth.{BitWidth}
 use Rattle.value.specs.declared.ByteLength.{ByteLength}
 use Rattle.value.specs.declared.CheckedWidth.{CheckedWidth}
@@ -75,11 +75,3 @@ ofWidth f (some n) = ok (f (bits n))
 abbrev pub ofLength : Option ℕ → Result Elementary
 ofLength none = err InvalidByteLength
 ofLength (some n) = ok (fixedBytes (octets n))
-
-abbrev pub orNumber : List ℕ → Option Elementary → Result Elementary
-orNumber t (some e) = ok e
-orNumber t none = withNumber t
-
--- a text without suffixes: a word, or a word with a number
-unfoldable pub elementaryOf : List ℕ → Result Elementary
-elementaryOf t = orNumber t (lookup kindWords t)

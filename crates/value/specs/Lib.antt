@@ -1,1 +1,2 @@
 pub mod Elementary
+pub mod Peeling

@@ -4,7 +4,9 @@ use text::Maybe;
 ghost use mathlib.Core.Path.{_≡_};
 ghost use Prim.Native.Nat.{_+_, _≤_, _<_};
 ghost use lib.ListN.{length};
-ghost use Rattle.value.specs.Elementary.{widthOf, checkedWidth, lengthOf, checkedLength, toResult, elementaryOf, widthNumber, lengthNumber, widthBehind, lengthBehind, ofWidth, ofLength};
+ghost use Rattle.model.specs.KindText.{elementaryOf, peel};
+ghost use Rattle.value.specs.Peeling.{LastIs, BracketAt, PeelIs};
+ghost use Rattle.value.specs.Elementary.{widthOf, checkedWidth, lengthOf, checkedLength, toResult, widthNumber, lengthNumber, widthBehind, lengthBehind, ofWidth, ofLength};
 ghost use Rattle.kinds.specs.Kind.{int as intKind, uint as uintKind};
 
 // A bit width of `int` and `uint`, made by its check alone.
@@ -167,4 +169,70 @@ pub fn elementary(t: &[u8]) -> Spelled
         return Spelled::Kind(Base::Function);
     }
     Spelled::Refused(Refusal::Unknown)
+}
+
+// Suffixes.
+
+// A place that may be missing.
+pub enum Place {
+    At(usize),
+    Nowhere,
+}
+
+// The last `[`: the search ends at its first hit from the right.
+fn last_bracket(t: &[u8]) -> Place
+    ensures { λ r. ⌜ LastIs (now (t .entry)) r ⌝ }
+{
+    let mut i = t.len();
+    loop {
+        if i == 0 {
+            break Place::Nowhere;
+        }
+        i -= 1;
+        if t[i] == 91 {
+            break Place::At(i);
+        }
+    }
+}
+
+// A suffix at the end of a text, and the place of its `[`.
+pub enum Peeled {
+    Sized { at: usize, n: u64 },
+    Unsized { at: usize },
+    Bare,
+}
+
+// The suffix from the `[` at q to the `]` at the end.
+fn bracket(t: &[u8], q: usize) -> Peeled
+    requires { ⌜ BracketAt (now t) q ⌝ }
+    ensures { λ r. ⌜ PeelIs (now (t .entry)) r ⌝ }
+{
+    let e = t.len() - 1;
+    let b = q + 1;
+    if b == e {
+        return Peeled::Unsized { at: q };
+    }
+    let m = text::number(18446744073709551615, &t[b..e]);
+    match m {
+        Maybe::Value(n) => Peeled::Sized { at: q, n },
+        Maybe::Absent => Peeled::Bare,
+    }
+}
+
+// "a rest followed by `[]`; a rest followed by `[`, number, `]` (last `[`)"
+fn peel(t: &[u8]) -> Peeled
+    ensures { λ r. ⌜ PeelIs (now (t .entry)) r ⌝ }
+{
+    if t.len() == 0 {
+        return Peeled::Bare;
+    }
+    let e = t.len() - 1;
+    if t[e] == 93 {
+        let p = last_bracket(t);
+        return match p {
+            Place::At(q) => bracket(t, q),
+            Place::Nowhere => Peeled::Bare,
+        };
+    }
+    Peeled::Bare
 }
