@@ -1,23 +1,23 @@
 -- The text of an elementary kind with suffixes, in any spelling, is read back as a whole.
 -- Assumes nothing.
 use mathlib.Core.Path.{_≡_, refl, sym, _∙_, ap}
-use mathlib.Core.Bool.{Bool, true, false, _&&_, not, false≢true, and-false}
+use mathlib.Core.Bool.{Bool, true, false, not, false≢true}
 use mathlib.Core.List.{List, [], _∷_, _++_, append-assoc, append-nil}
-use mathlib.Core.Option.{none, some}
-use Prim.Native.Nat.{ℕ, zero, suc, _+_, _≤_, _<_}
+use mathlib.Core.Option.{some}
+use Prim.Native.Nat.{ℕ, _≤_}
 use native.Mathlib.Omega.{arith}
-use native.Mathlib.Nat.{add-zero}
 use lib.Dec.{eqb}
 use lib.ListN.{length, length-append}
 use borrow.Author.Tests.{ne-eqb, leb-true, le-leb, lt-ltb, not-true}
-use Rattle.kinds.specs.Bytes.{ascii, comma, rparen, lbracket, rbracket, all, same, isAscii, isDigit, isWordByte, isWord}
+use Rattle.kinds.specs.Bytes.{comma, rparen, lbracket, rbracket, all, same, isAscii, isDigit, isWordByte, isWord}
 use Rattle.kinds.specs.Decimal.{decimal, number}
 use Rattle.kinds.specs.Kind.{bits, octets, isBitWidth, isElementary, Elementary, int, uint, fixedBytes, address, bool, function, bytes, string, Suffix, sized, unsized, elementaryText, suffixText}
-use Rattle.kinds.proofs.Logic.{both, left, right, all-append, all-weaken, digit-word, word-all, same-unequal}
+use Rattle.kinds.proofs.Logic.{both, left, right, all-append, all-weaken, digit-word, word-all}
 use Rattle.kinds.proofs.Decimal.{decimal-digits, decimal-word, decimal-cons, written-read}
-use Rattle.model.specs.KindText.{ok, Entry, entry, lookup, kindWords, uncut, cut, cutLast, strip, longest, inside, peeled, bare, peel, width, byteLength, withNumber, fromStrIn, fromStr}
+use Rattle.model.specs.KindText.{ok, elementaryOf, lookup, uncut, cutLast, longest, inside, peeled, bare, peel, width, byteLength, withNumber, fromStr}
 use Rattle.model.specs.Record.{isSuffix}
 use Rattle.model.specs.Written.{suffixesText, SpellsElementary, itself, shortInt, shortUint}
+use Rattle.model.proofs.Suffixes.{cut-here, strip-same, from-str-peeled, from-str-bare}
 use Rattle.model.proofs.Scans.{between-both, word-range, isRunByte}
 
 -- what stands between a suffix's brackets
@@ -34,7 +34,7 @@ pub inner-digits : (o : Suffix) → all isDigit (inner o) ≡ true
 inner-digits (sized n) = decimal-digits n
 inner-digits unsized = refl
 
-pub inner-word : (o : Suffix) → all isWordByte (inner o) ≡ true
+inner-word : (o : Suffix) → all isWordByte (inner o) ≡ true
 inner-word o = all-weaken isDigit isWordByte digit-word (inner o) (inner-digits o)
 
 -- a suffix takes two bytes at least
@@ -50,7 +50,7 @@ inside-inner (sized n) h =
     let (c, s, e) = decimal-cons n in
     rw (e, ← e, written-read longest n .1 (leb-true n longest h))
 
--- the last `[` and the last `]`
+-- the last `[`
 abbrev noOpen : ℕ → Bool
 noOpen c = not (eqb lbracket c)
 
@@ -58,17 +58,6 @@ cut-none : (s : List ℕ) → all noOpen s ≡ true → cutLast lbracket s ≡ u
 unfolding cutLast
 cut-none [] h = refl
 cut-none (c ∷ s) h = rw (cut-none s (right (noOpen c) h), not-true (eqb lbracket c) (left _ h))
-
-cut-at : (a b : List ℕ) → cutLast lbracket b ≡ uncut → cutLast lbracket (a ++ (lbracket ∷ b)) ≡ cut a b
-unfolding cutLast
-cut-at [] b h = rw h
-cut-at (c ∷ a) b h = rw (cut-at a b h)
-
-strip-last : (a : List ℕ) → strip rbracket (a ++ (rbracket ∷ [])) ≡ some a
-unfolding strip
-strip-last [] = refl
-strip-last (c ∷ []) = refl
-strip-last (c ∷ b ∷ a) = rw (strip-last (b ∷ a))
 
 -- a word byte is no bracket
 word-open : (t : List ℕ) → all isWordByte t ≡ true → all noOpen t ≡ true
@@ -83,47 +72,18 @@ unfolding peel
 peel-suffix t o h =
     let b : List ℕ = inner o ++ (rbracket ∷ []) in
     let n : all noOpen b ≡ true = rw all-append (both (word-open (inner o) (inner-word o)) refl) in
-    rw (suffix-inner o, cut-at t b (cut-none b n), strip-last (inner o), inside-inner o h)
+    rw (suffix-inner o, cut-here lbracket t b (cut-none b n), strip-same rbracket (inner o), inside-inner o h)
 
--- a text that is no word is none of the words of a list
-abbrev wordy : {A : Type 0} → List (Entry A) → Bool
-wordy [] = true
-wordy (entry w a ∷ es) = all isWordByte w && wordy es
-
-lookup-absent : {A : Type 0} (es : List (Entry A)) (t : List ℕ) → wordy es ≡ true → all isWordByte t ≡ false → lookup es t ≡ none
-lookup-absent [] t h k = refl
-lookup-absent (entry w a ∷ es) t h k = rw (lookup, same-unequal w t (λ q. false≢true (sym k ∙ ap (all isWordByte) (sym q) ∙ left _ h))) (lookup-absent es t (right (all isWordByte w) h) k)
-
-suffix-unword : (t : List ℕ) (o : Suffix) → all isWordByte (t ++ suffixText o) ≡ false
-suffix-unword t o = rw (suffix-inner o, all-append isWordByte t (lbracket ∷ (inner o ++ (rbracket ∷ [])))) (and-false (all isWordByte t))
-
--- the kind e with the suffixes os is read of t, by any bound over n
-abbrev ReadsText : Elementary → List Suffix → List ℕ → ℕ → Type 0
-ReadsText e os t n = (k : ℕ) → n < k → fromStrIn k t ≡ ok (record { kind = e; suffixes = os })
-
-text-suffix : (e : Elementary) (os : List Suffix) (t : List ℕ) (n : ℕ) (o : Suffix) → isSuffix o ≡ true → ReadsText e os t n → ReadsText e (os ++ (o ∷ [])) (t ++ suffixText o) (suc n)
-unfolding fromStrIn
-text-suffix e os t n o h r zero l = absurd (omega arith)
-text-suffix e os t n o h r (suc k) l = rw (fromStrIn, lookup-absent kindWords (t ++ suffixText o) refl (suffix-unword t o), peel-suffix t o h, r k (omega arith))
-
-text-suffixes : (e : Elementary) (ss os : List Suffix) (t : List ℕ) (n : ℕ) → all isSuffix ss ≡ true → ReadsText e os t n → ReadsText e (os ++ ss) (t ++ suffixesText ss) (n + length ss)
+-- suffixes are read off
+suffixes-back : (ss os : List Suffix) (e : Elementary) (t : List ℕ) → all isSuffix ss ≡ true → fromStr t ≡ ok (record { kind = e; suffixes = os })
+    → fromStr (t ++ suffixesText ss) ≡ ok (record { kind = e; suffixes = os ++ ss })
 unfolding suffixesText
-text-suffixes e [] os t n h r = rw (append-nil os, append-nil t, add-zero n) r
-text-suffixes e (o ∷ ss) os t n h r =
-    let q = text-suffixes e ss (os ++ (o ∷ [])) (t ++ suffixText o) (suc n) (right (isSuffix o) h) (text-suffix e os t n o (left _ h) r) in
-    λ k l. simp append-assoc at (q k (omega arith))
+suffixes-back [] os e t h r = rw (append-nil os, append-nil t) r
+suffixes-back (o ∷ ss) os e t h r =
+    let one : fromStr (t ++ suffixText o) ≡ ok (record { kind = e; suffixes = os ++ (o ∷ []) }) = from-str-peeled (t ++ suffixText o) t o (peel-suffix t o (left _ h)) ∙ rw r in
+    simp append-assoc at (suffixes-back ss (os ++ (o ∷ [])) e (t ++ suffixText o) (right (isSuffix o) h) one)
 
--- a kind that is a word by itself, and one with a number
-word-text : (t : List ℕ) (e : Elementary) → lookup kindWords t ≡ some e → ReadsText e [] t 0
-unfolding fromStrIn
-word-text t e q zero l = absurd (omega arith)
-word-text t e q (suc k) l = rw (fromStrIn, q)
-
-numbered-text : (t : List ℕ) (e : Elementary) → lookup kindWords t ≡ none → isWord t ≡ true → withNumber t ≡ ok e → ReadsText e [] t 0
-unfolding fromStrIn
-numbered-text t e q h n zero l = absurd (omega arith)
-numbered-text t e q h n (suc k) l = rw (fromStrIn, q, peel-word t (word-all t h), n)
-
+-- elementary kinds
 decimal-nonempty : (n : ℕ) → same [] (decimal n) ≡ false
 decimal-nonempty n = ap (same []) (decimal-cons n .2)
 
@@ -141,28 +101,23 @@ elementary-is-word function = refl
 elementary-is-word bytes = refl
 elementary-is-word string = refl
 
-elementary-text : (e : Elementary) → isElementary e ≡ true → ReadsText e [] (elementaryText e) 0
-unfolding isElementary elementaryText withNumber
-elementary-text (int (bits m)) h =
-    let e : Elementary = int (bits m) in
-    numbered-text (elementaryText e) e (rw (lookup, decimal-nonempty m)) (elementary-is-word e) (rw (width-read m h, width, h))
-elementary-text (uint (bits m)) h =
-    let e : Elementary = uint (bits m) in
-    numbered-text (elementaryText e) e (rw (lookup, decimal-nonempty m)) (elementary-is-word e) (rw (width-read m h, width, h))
-elementary-text (fixedBytes (octets m)) h =
-    let e : Elementary = fixedBytes (octets m) in
-    numbered-text (elementaryText e) e (rw (lookup, decimal-nonempty m)) (elementary-is-word e) (rw (written-read 32 m .1 (between-both 1 32 m h .1), byteLength, h))
-elementary-text address h = word-text (ascii "address") address refl
-elementary-text bool h = word-text (ascii "bool") bool refl
-elementary-text function h = word-text (ascii "function") function refl
-elementary-text bytes h = word-text (ascii "bytes") bytes refl
-elementary-text string h = word-text (ascii "string") string refl
+elementary-back : (e : Elementary) → isElementary e ≡ true → elementaryOf (elementaryText e) ≡ ok e
+unfolding isElementary elementaryText elementaryOf withNumber
+elementary-back (int (bits m)) h = rw (elementaryOf, lookup, decimal-nonempty m, width-read m h, width, h)
+elementary-back (uint (bits m)) h = rw (elementaryOf, lookup, decimal-nonempty m, width-read m h, width, h)
+elementary-back (fixedBytes (octets m)) h = rw (elementaryOf, lookup, decimal-nonempty m, written-read 32 m .1 (between-both 1 32 m h .1), byteLength, h)
+elementary-back address h = refl
+elementary-back bool h = refl
+elementary-back function h = refl
+elementary-back bytes h = refl
+elementary-back string h = refl
 
 -- an elementary kind, as it may be spelled
-spelled-text : {e : Elementary} {t : List ℕ} → SpellsElementary e t → isElementary e ≡ true → ReadsText e [] t 0
-spelled-text (itself e) h = elementary-text e h
-spelled-text shortInt h = word-text (ascii "int") (int (bits 256)) refl
-spelled-text shortUint h = word-text (ascii "uint") (uint (bits 256)) refl
+spelled-back : {e : Elementary} {t : List ℕ} → SpellsElementary e t → isElementary e ≡ true → elementaryOf t ≡ ok e
+unfolding elementaryOf
+spelled-back (itself e) h = elementary-back e h
+spelled-back shortInt h = refl
+spelled-back shortUint h = refl
 
 pub spelled-word : {e : Elementary} {t : List ℕ} → SpellsElementary e t → isWord t ≡ true
 spelled-word (itself e) = elementary-is-word e
@@ -171,9 +126,7 @@ spelled-word shortUint = refl
 
 pub spelled-suffixes : {e : Elementary} {t : List ℕ} → SpellsElementary e t → isElementary e ≡ true → (ss : List Suffix) → all isSuffix ss ≡ true
     → fromStr (t ++ suffixesText ss) ≡ ok (record { kind = e; suffixes = ss })
-unfolding fromStr
-spelled-suffixes {e} {t} w h ss k =
-    text-suffixes e ss [] t 0 k (spelled-text w h) (suc (length (t ++ suffixesText ss))) (omega (arith, suffixes-long ss, length-append t (suffixesText ss)))
+spelled-suffixes {e} {t} w h ss k = suffixes-back ss [] e t k (from-str-bare t (peel-word t (word-all t (spelled-word w))) ∙ rw (spelled-back w h))
 
 -- it is of bytes of runs, which are ASCII
 word-run : (t : List ℕ) → all isWordByte t ≡ true → all isRunByte t ≡ true

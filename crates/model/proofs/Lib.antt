@@ -15,3 +15,4 @@ pub mod KindBack
 pub mod Readback
 pub mod Spelling
 pub mod Lines
+pub mod Demand

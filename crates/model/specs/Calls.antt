@@ -7,9 +7,10 @@ use mathlib.Core.Option.{Option, none, some}
 use Prim.Native.Nat.{ℕ}
 use lib.Dec.{eqb}
 use Rattle.kinds.specs.Bytes.{lparen}
-use Rattle.kinds.specs.Kind.{Prototype}
+use Rattle.kinds.specs.Kind.{Prototype, canonical as canonicalLine}
 use Rattle.model.specs.declared.Refusal.{Refusal}
 use Rattle.model.specs.declared.Refusal.the-variants.{TooDeep, StartsWithTuple, NotWellFormed, WrongSort}
+use Rattle.model.specs.declared.Keyword.{Keyword}
 use Rattle.model.specs.declared.Call.{Call}
 use Rattle.model.specs.Text.{peek}
 use Rattle.model.specs.Tree.{elementary, Field, field, unmarked, Declaration, nameKinds}
@@ -17,7 +18,7 @@ use Rattle.model.specs.KindText.{Result, ok, err, Spelled, fromStr}
 use Rattle.model.specs.Parser.{Ans, got, bad, deep}
 use Rattle.model.specs.Reading.{admit, parse}
 use Rattle.model.specs.Record.{encode, encodeField, decode, decodeLone}
-use Rattle.model.specs.Line.{canonicalText, signatureText, fieldText, nameOf, fieldName}
+use Rattle.model.specs.Line.{keywordIn, canonicalText, signatureText, fieldText, nameOf, fieldName}
 use Rattle.model.specs.Answer.{Output, writes, refuses}
 
 -- what was read is written by E
@@ -77,3 +78,17 @@ pub record AcceptedAs (s : List ℕ) (p : Prototype) : Type 0 where
   pub place : ℕ
   pub reads : parse call s ≡ got declaration place
   pub says : nameKinds declaration ≡ some p
+
+-- lists of texts, each accepted with the name and kinds at its place of the other list: "one claim about whole lists of any lengths"
+pub data AllAccepted : List (List ℕ) → List Prototype → Type 0 where
+  no-text : AllAccepted [] []
+  one-text : {s : List ℕ} {p : Prototype} {ss : List (List ℕ)} {ps : List Prototype} → AcceptedAs s p → AllAccepted ss ps → AllAccepted (s ∷ ss) (p ∷ ps)
+
+-- what is read of a line: the record that is written of it says the same name and kinds, and its line is the same
+pub record SameLine (k : Keyword) (p : Prototype) (b : List ℕ) : Type 0 where
+  pub declaration : Declaration
+  pub says : decode b ≡ some declaration
+  pub keyword : keywordIn declaration ≡ k
+  pub same : nameKinds declaration ≡ some p
+  pub name : nameOutput b ≡ writes (p .name)
+  pub canonical : canonicalOutput b ≡ writes (canonicalLine p)
