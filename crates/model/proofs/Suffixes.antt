@@ -62,6 +62,42 @@ strip-other d c (b ∷ m) n = go m (strip-other d c m n)
     go [] e = rw e
     go (x ∷ u) e = rw e
 
+-- a text that ends in some byte is something and that byte
+strip-whole : (d : ℕ) (t m : List ℕ) → strip d t ≡ some m → t ≡ m ++ (d ∷ [])
+unfolding strip
+strip-whole d [] m e = cc
+strip-whole d (c ∷ t) m e = go t (strip d t) refl e (λ n q. strip-whole d t n q)
+  where
+    go : (u : List ℕ) (r : Option (List ℕ)) → strip d u ≡ r → stripStep d c u (strip d u) ≡ some m → ((n : List ℕ) → strip d u ≡ some n → u ≡ n ++ (d ∷ [])) → c ∷ u ≡ m ++ (d ∷ [])
+    go [] r q f ih = last (eqb d c) refl
+      where
+        last : (b : Bool) → eqb d c ≡ b → c ∷ [] ≡ m ++ (d ∷ [])
+        last true p = let g : some [] ≡ some m = rw (stripStep, p) at f in let h : [] ≡ m = cc in rw (← h) (ap (_∷ []) (sym (eqb-true d c p)))
+        last false p = let g : none ≡ some m = rw (stripStep, p) at f in cc
+    go (b ∷ u) none q f ih = let g : none ≡ some m = rw q at f in cc
+    go (b ∷ u) (some n) q f ih = let g : some (c ∷ n) ≡ some m = rw q at f in let h : c ∷ n ≡ m = cc in rw (← h) (ap (c ∷_) (ih n q))
+
+-- a text with a suffix: the rest, and what stands in the brackets
+pub peel-split : (t a : List ℕ) (o : Suffix) → peel t ≡ peeled a o → (m : List ℕ) × (t ≡ a ++ lbracket ∷ (m ++ (rbracket ∷ []))) × (inside m ≡ some o)
+unfolding peel
+peel-split t a o e = go (cutLast lbracket t) refl e
+  where
+    within : (x b : List ℕ) → cutLast lbracket t ≡ cut x b → (r : Option (List ℕ)) → strip rbracket b ≡ r → peelBy x (shut r) ≡ peeled a o
+        → (m : List ℕ) × (t ≡ a ++ lbracket ∷ (m ++ (rbracket ∷ []))) × (inside m ≡ some o)
+    within x b q none s f = let z : _≡_ {A = ℕ} 0 1 = cc in absurd (omega arith)
+    within x b q (some m) s f = by (inside m) refl f
+      where
+        by : (i : Option Suffix) → inside m ≡ i → peelBy x i ≡ peeled a o → (n : List ℕ) × (t ≡ a ++ lbracket ∷ (n ++ (rbracket ∷ []))) × (inside n ≡ some o)
+        by none j g = let z : _≡_ {A = ℕ} 0 1 = cc in absurd (omega arith)
+        by (some p) j g =
+            let k : x ≡ a = cc in
+            let l : p ≡ o = cc in
+            (m, cut-whole lbracket t x b q ∙ rw (k, strip-whole rbracket b m s), rw l at j)
+
+    go : (r : Cut) → cutLast lbracket t ≡ r → peelAt (cutLast lbracket t) ≡ peeled a o → (m : List ℕ) × (t ≡ a ++ lbracket ∷ (m ++ (rbracket ∷ []))) × (inside m ≡ some o)
+    go uncut q f = let z : bare ≡ peeled a o = rw q at f in let y : _≡_ {A = ℕ} 0 1 = cc in absurd (omega arith)
+    go (cut x b) q f = within x b q (strip rbracket b) refl (rw q at f)
+
 -- a word that is a kind ends in no suffix
 abbrev Bare : Entry Elementary → Type 0
 Bare (entry w e) = peel w ≡ bare

@@ -1,3 +1,4 @@
 pub mod Widths
 pub mod Words
 pub mod Peels
+pub mod Runs

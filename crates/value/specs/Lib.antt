@@ -1,2 +1,3 @@
 pub mod Elementary
 pub mod Peeling
+pub mod Run

@@ -6,6 +6,7 @@ ghost use Prim.Native.Nat.{_+_, _≤_, _<_};
 ghost use lib.ListN.{length};
 ghost use Rattle.model.specs.KindText.{elementaryOf, peel};
 ghost use Rattle.value.specs.Peeling.{LastIs, BracketAt, PeelIs};
+ghost use Rattle.value.specs.Run.{RunIs};
 ghost use Rattle.value.specs.Elementary.{widthOf, checkedWidth, lengthOf, checkedLength, toResult, widthNumber, lengthNumber, widthBehind, lengthBehind, ofWidth, ofLength};
 ghost use Rattle.kinds.specs.Kind.{int as intKind, uint as uintKind};
 
@@ -235,4 +236,44 @@ fn peel(t: &[u8]) -> Peeled
         };
     }
     Peeled::Bare
+}
+
+// The kind of a run: its base, where its suffixes begin, and how many bytes their records take.
+pub enum RunKind {
+    Read { base: Base, from: usize, len: usize },
+    Refused(Refusal),
+}
+
+// `ValueKind::from_str`, for texts that do not begin with `(`.
+pub fn from_str(t: &[u8]) -> RunKind
+    requires { ⌜ length (now t) ≤ 4096 ⌝ }
+    ensures { λ r. ⌜ RunIs (now (t .entry)) r ⌝ }
+{
+    let mut end = t.len();
+    let mut len: usize = 0;
+    loop {
+        let p = peel(&t[..end]);
+        match p {
+            Peeled::Sized { at, n: _ } => {
+                end = at;
+                len += 14;
+            }
+            Peeled::Unsized { at } => {
+                end = at;
+                len += 6;
+            }
+            Peeled::Bare => {
+                break;
+            }
+        }
+    }
+    let k = elementary(&t[..end]);
+    match k {
+        Spelled::Kind(base) => RunKind::Read {
+            base,
+            from: end,
+            len,
+        },
+        Spelled::Refused(w) => RunKind::Refused(w),
+    }
 }
