@@ -9,7 +9,7 @@ use native.Mathlib.Numerals.{add-one, add-two, add-three, add-four, add-five, ad
 use lib.ListN.{length, take, drop, set, getD, length-append, length-take, length-drop, length-set, take-append-drop, List·getD-append}
 use lib.Seq.{sets, sets-eq, paste, paste-zero, paste-suc, length-paste, take-at, drop-at, take-append-le, take-suc, drop-cons, take-take, take-add, length-take-le, take-append-add, take-all, set-at, getD-take, drop-append-add, drop-drop}
 use Rattle.model.specs.Layout.{littleEndian, leValue}
-use Rattle.layout.specs.Buffer.{put, shifted, inserted, head}
+use Rattle.layout.specs.Buffer.{put, shifted, inserted, head, frontOf}
 
 -- its length stays
 pub length-put : (o : ℕ) (u b : List ℕ) → o + length u ≤ length b → length (put o u b) ≡ length b
@@ -36,6 +36,46 @@ pub header-stores : (b : List ℕ) (o n k : ℕ) → o + 6 ≤ length b
     ≡ put o (head n k) b
 unfolding littleEndian head
 header-stores b o n k h = rw (add-one, add-two, add-three, add-four, add-five) (stores (head n k) b o h)
+
+-- one part behind the other
+pub put-put : (o : ℕ) (u v b : List ℕ) → o + length u + length v ≤ length b → put (o + length u) v (put o u b) ≡ put o (u ++ v) b
+unfolding put
+put-put o u v b h =
+    let p : List ℕ = take o b ++ u in
+    let l : length p ≡ o + length u = rw (length-append, length-take-le o b (omega arith)) in
+    let e : put o u b ≡ p ++ drop (o + length u) b = sym (append-assoc (take o b) u (drop (o + length u) b)) in
+    let x : take (o + length u) (put o u b) ≡ p = rw e (take-at p (drop (o + length u) b) (o + length u) l) in
+    let y : drop (o + length u + length v) (put o u b) ≡ drop (o + length u + length v) b
+        = sym (drop-drop (length v) (o + length u) (put o u b)) ∙ rw (e, drop-at p (drop (o + length u) b) (o + length u) l) (drop-drop (length v) (o + length u) b) in
+    let z : o + length (u ++ v) ≡ o + length u + length v = omega (arith, length-append u v) in
+    rw (x, y, z, append-assoc, append-assoc)
+
+-- the same where the second part is put in at a place that is known to be behind the first
+pub put-then : (o p : ℕ) (u v b b₁ b₂ : List ℕ) → b₁ ≡ put o u b → b₂ ≡ put p v b₁ → p ≡ o + length u → o + length u + length v ≤ length b → b₂ ≡ put o (u ++ v) b
+put-then o p u v b b₁ b₂ e f q h = f ∙ rw (q, e) (put-put o u v b h)
+
+pub length-head : (n k : ℕ) → length (head n k) ≡ 6
+unfolding head littleEndian
+length-head n k = refl
+
+pub length-two : (v : ℕ) → length (littleEndian 2 v) ≡ 2
+unfolding littleEndian
+length-two v = refl
+
+pub length-front : (mark m l : ℕ) → length (frontOf mark m l) ≡ 14
+unfolding frontOf head littleEndian
+length-front mark m l = refl
+
+pub front-puts : (o mark m l : ℕ) (b b₁ b₂ b₃ : List ℕ) → o + 14 ≤ length b → b₁ ≡ put o (head (14 + m + l) 16) b → b₂ ≡ put (o + 6) (littleEndian 2 mark) b₁
+    → b₃ ≡ put (o + 8) (head (6 + m) 17) b₂ → b₃ ≡ put o (frontOf mark m l) b
+unfolding frontOf
+front-puts o mark m l b b₁ b₂ b₃ h e f g =
+    let x = length-head (14 + m + l) 16 in
+    let y = length-two mark in
+    let z = length-head (6 + m) 17 in
+    let u = put-then o (o + 6) (head (14 + m + l) 16) (littleEndian 2 mark) b b₁ b₂ e f (omega arith) (omega arith) in
+    put-then o (o + 8) (head (14 + m + l) 16 ++ littleEndian 2 mark) (head (6 + m) 17) b b₂ b₃ u g (omega (arith, length-append (head (14 + m + l) 16) (littleEndian 2 mark))) (omega (arith, length-append (head (14 + m + l) 16) (littleEndian 2 mark)))
+    ∙ rw append-assoc
 
 -- the loop of copy: i bytes are copied
 pub record Copied (b₀ : List ℕ) (at : ℕ) (src b : List ℕ) (i : ℕ) : Type 0 where
@@ -132,4 +172,4 @@ unfolding leValue
 get4-sum b at x y z w h p q r s =
     rw (p, q, r, s, add-one, add-two, add-three, drop-cons b at 0 (omega arith), drop-cons b (suc at) 0 (omega arith), drop-cons b (suc (suc at)) 0 (omega arith), drop-cons b (suc (suc (suc at))) 0 (omega arith)) (omega arith)
 
-pub ruleset puts = (put2-stores, put8-stores, header-stores, copy-start, copy-next, copy-end, shift-start, shift-next, shift-end, insert-end, get2-sum, get4-sum)
+pub ruleset puts = (put2-stores, put8-stores, header-stores, front-puts, copy-start, copy-next, copy-end, shift-start, shift-next, shift-end, insert-end, get2-sum, get4-sum)

@@ -20,3 +20,7 @@ inserted at end u b = put at (u ++ take (end - at) (drop at b)) b
 -- the head of a record: its whole length in 4 bytes, and its kind
 unfoldable pub head : ℕ → ℕ → List ℕ
 head n k = littleEndian 4 n ++ littleEndian 2 k
+
+-- the front of a field's record: its head, its mark and the head of its name, for a name of m bytes and a kind of l
+unfoldable pub frontOf : ℕ → ℕ → ℕ → List ℕ
+frontOf mark m l = head (14 + m + l) 0x10 ++ (littleEndian 2 mark ++ head (6 + m) 0x11)

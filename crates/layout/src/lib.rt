@@ -3,10 +3,10 @@ ghost use mathlib.Core.Path.{_≡_};
 ghost use Prim.Native.Nat.{_+_, _-_, _≤_, _<_};
 ghost use lib.ListN.{length, take, drop};
 ghost use Rattle.model.specs.Layout.{littleEndian, leValue};
-ghost use Rattle.layout.specs.Buffer.{put, inserted, shifted, head};
+ghost use Rattle.layout.specs.Buffer.{put, inserted, shifted, head, frontOf};
 
 // Writes a number of two bytes at o.
-pub fn put2(out: &mut [u8], o: usize, v: u16)
+pub fn put2(out: &mut [u8], o: usize, v: usize)
     requires { ⌜ o + 2 ≤ length (now out) ⌝ }
     ensures { λ _. ⌜ now (out .exit) ≡ put o (littleEndian 2 v) (now (out .entry)) ⌝ }
 {
@@ -52,6 +52,16 @@ pub fn header(out: &mut [u8], o: usize, n: usize, k: u16)
     out[o + 3] = (c % 256) as u8;
     out[o + 4] = (k % 256) as u8;
     out[o + 5] = (d % 256) as u8;
+}
+
+// Writes the front of a field's record at o: its head, its mark and the head of its name, for a name of m bytes and a kind of l.
+pub fn front(out: &mut [u8], o: usize, mark: usize, m: usize, l: usize)
+    requires { ⌜ (o + 14 ≤ length (now out)) × (m + l ≤ 1048576) ⌝ }
+    ensures { λ _. ⌜ now (out .exit) ≡ put o (frontOf mark m l) (now (out .entry)) ⌝ }
+{
+    header(out, o, 14 + m + l, 16);
+    put2(out, o + 6, mark);
+    header(out, o + 8, 6 + m, 17);
 }
 
 // Writes the bytes of a part at `at`.

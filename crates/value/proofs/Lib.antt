@@ -2,3 +2,4 @@ pub mod Widths
 pub mod Words
 pub mod Peels
 pub mod Runs
+pub mod Written

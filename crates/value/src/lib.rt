@@ -6,8 +6,11 @@ ghost use Prim.Native.Nat.{_+_, _≤_, _<_};
 ghost use lib.ListN.{length};
 ghost use Rattle.model.specs.KindText.{elementaryOf, peel};
 ghost use Rattle.value.specs.Peeling.{LastIs, BracketAt, PeelIs};
+ghost use Rattle.model.specs.Layout.{littleEndian, recordOf};
+ghost use Rattle.model.specs.Record.{encodeElementary, encodeSuffixes};
+ghost use Rattle.layout.specs.Buffer.{put};
 ghost use Rattle.value.specs.Run.{RunIs};
-ghost use Rattle.value.specs.Elementary.{widthOf, checkedWidth, lengthOf, checkedLength, toResult, widthNumber, lengthNumber, widthBehind, lengthBehind, ofWidth, ofLength};
+ghost use Rattle.value.specs.Elementary.{toElementary, widthOf, checkedWidth, lengthOf, checkedLength, toResult, widthNumber, lengthNumber, widthBehind, lengthBehind, ofWidth, ofLength};
 ghost use Rattle.kinds.specs.Kind.{int as intKind, uint as uintKind};
 
 // A bit width of `int` and `uint`, made by its check alone.
@@ -275,5 +278,49 @@ pub fn from_str(t: &[u8]) -> RunKind
             len,
         },
         Spelled::Refused(w) => RunKind::Refused(w),
+    }
+}
+
+// Kinds written.
+
+// How many bytes the record of a base takes.
+pub fn base_length(b: Base) -> usize
+    ensures { λ r. ⌜ (r ≡ length (encodeElementary 4 (toElementary b))) × (r ≤ 8) ⌝ }
+{
+    match b {
+        Base::Int(_) => 8,
+        Base::Uint(_) => 8,
+        Base::Address => 6,
+        Base::Bool => 6,
+        Base::FixedBytes(_) => 8,
+        Base::Function => 6,
+        Base::Bytes => 6,
+        Base::String => 6,
+    }
+}
+
+// Writes a record of a kind with a number of two bytes.
+fn numbered(out: &mut [u8], o: usize, k: u16, n: usize)
+    requires { ⌜ o + 8 ≤ length (now out) ⌝ }
+    ensures { λ _. ⌜ now (out .exit) ≡ put o (recordOf 4 k (littleEndian 2 n)) (now (out .entry)) ⌝ }
+{
+    layout::header(out, o, 8, k);
+    layout::put2(out, o + 6, n);
+}
+
+// Writes the record of a base.
+pub fn write_base(out: &mut [u8], o: usize, b: Base)
+    requires { ⌜ o + length (encodeElementary 4 (toElementary b)) ≤ length (now out) ⌝ }
+    ensures { λ _. ⌜ now (out .exit) ≡ put o (encodeElementary 4 (toElementary b)) (now (out .entry)) ⌝ }
+{
+    match b {
+        Base::Int(w) => numbered(out, o, 1, w.get() as usize),
+        Base::Uint(w) => numbered(out, o, 2, w.get() as usize),
+        Base::Address => layout::header(out, o, 6, 3),
+        Base::Bool => layout::header(out, o, 6, 4),
+        Base::FixedBytes(n) => numbered(out, o, 5, n.get()),
+        Base::Function => layout::header(out, o, 6, 6),
+        Base::Bytes => layout::header(out, o, 6, 7),
+        Base::String => layout::header(out, o, 6, 8),
     }
 }
