@@ -46,7 +46,7 @@ put-put o u v b h =
     let e : put o u b ≡ p ++ drop (o + length u) b = sym (append-assoc (take o b) u (drop (o + length u) b)) in
     let x : take (o + length u) (put o u b) ≡ p = rw e (take-at p (drop (o + length u) b) (o + length u) l) in
     let y : drop (o + length u + length v) (put o u b) ≡ drop (o + length u + length v) b
-        = sym (drop-drop (length v) (o + length u) (put o u b)) ∙ rw (e, drop-at p (drop (o + length u) b) (o + length u) l) (drop-drop (length v) (o + length u) b) in
+    = sym (drop-drop (length v) (o + length u) (put o u b)) ∙ rw (e, drop-at p (drop (o + length u) b) (o + length u) l) (drop-drop (length v) (o + length u) b) in
     let z : o + length (u ++ v) ≡ o + length u + length v = omega (arith, length-append u v) in
     rw (x, y, z, append-assoc, append-assoc)
 

@@ -3,3 +3,4 @@ pub mod Words
 pub mod Peels
 pub mod Runs
 pub mod Written
+pub mod Suffixing

@@ -1,15 +1,17 @@
 -- The kind of a run as the code keeps it: a base by value, and where its suffixes lie in the text.
 -- Assumes nothing.
 use mathlib.Core.Path.{_≡_}
-use mathlib.Core.Bool.{true}
+use mathlib.Core.Bool.{Bool, true, not}
 use mathlib.Core.List.{List, [], _∷_, _++_}
 use mathlib.Core.Option.{some}
 use Prim.Native.Nat.{ℕ, _+_, _*_, _-_, _≤_}
+use lib.Dec.{eqb}
 use lib.ListN.{length, drop}
 use Rattle.kinds.specs.Bytes.{lbracket, rbracket}
 use Rattle.kinds.specs.Kind.{Suffix}
 use Rattle.model.specs.KindText.{Result, ok, err, inside, Spelled, fromStr}
-use Rattle.model.specs.Record.{encodeSuffixes}
+use Rattle.model.specs.Record.{encodeSuffix, encodeSuffixes}
+use Rattle.layout.specs.Buffer.{put}
 use Rattle.value.specs.declared.Base.{Base}
 use Rattle.value.specs.declared.RunKind.{RunKind}
 use Rattle.value.specs.declared.RunKind.the-variants.{Read, Refused}
@@ -32,3 +34,29 @@ pub record ReadIs (t : List ℕ) (b : Base) (from len : ℕ) : Type 0 where
 abbrev pub RunIs : List ℕ → RunKind → Type 0
 RunIs t (Read b from len) = ReadIs t b from len
 RunIs t (Refused w) = fromStr t ≡ err w
+
+-- any byte but `]`
+abbrev pub notShut : ℕ → Bool
+notShut c = not (eqb c rbracket)
+
+-- at `at` the suffix s stands, with m in its brackets and u behind it
+pub record Stands (t : List ℕ) (at : ℕ) (m u : List ℕ) (s : Suffix) : Type 0 where
+  pub there : drop at t ≡ lbracket ∷ (m ++ (rbracket ∷ u))
+  pub means : inside m ≡ some s
+
+-- what writing it asks: that one stands there, and room for its record. The last two follow, and are there for `omega` to find
+pub record SuffixAt (t : List ℕ) (at o : ℕ) (b : List ℕ) : Type 0 where
+  pub m : List ℕ
+  pub u : List ℕ
+  pub s : Suffix
+  pub stands : Stands t at m u s
+  pub room : o + length (encodeSuffix 4 s) ≤ length b
+  pub short : length t ≤ 4096
+  pub inside : at + 2 ≤ length t
+  pub least : o + 6 ≤ length b
+
+-- what writing it leaves, and the places behind it
+pub record SuffixPut (t : List ℕ) (at o : ℕ) (b b₁ : List ℕ) (at₁ o₁ : ℕ) : Type 0 where
+  pub wrote : (m u : List ℕ) (s : Suffix) → Stands t at m u s → b₁ ≡ put o (encodeSuffix 4 s) b
+  pub place : (m u : List ℕ) (s : Suffix) → Stands t at m u s → at₁ ≡ at + length m + 2
+  pub end : (m u : List ℕ) (s : Suffix) → Stands t at m u s → o₁ ≡ o + length (encodeSuffix 4 s)

@@ -3,13 +3,14 @@ use model::Refusal;
 use text::Maybe;
 ghost use mathlib.Core.Path.{_≡_};
 ghost use Prim.Native.Nat.{_+_, _≤_, _<_};
-ghost use lib.ListN.{length};
+ghost use lib.ListN.{length, drop};
 ghost use Rattle.model.specs.KindText.{elementaryOf, peel};
 ghost use Rattle.value.specs.Peeling.{LastIs, BracketAt, PeelIs};
 ghost use Rattle.model.specs.Layout.{littleEndian, recordOf};
 ghost use Rattle.model.specs.Record.{encodeElementary, encodeSuffixes};
 ghost use Rattle.layout.specs.Buffer.{put};
-ghost use Rattle.value.specs.Run.{RunIs};
+ghost use Rattle.model.specs.Text.{span, one};
+ghost use Rattle.value.specs.Run.{RunIs, notShut, SuffixAt, SuffixPut};
 ghost use Rattle.value.specs.Elementary.{toElementary, widthOf, checkedWidth, lengthOf, checkedLength, toResult, widthNumber, lengthNumber, widthBehind, lengthBehind, ofWidth, ofLength};
 ghost use Rattle.kinds.specs.Kind.{int as intKind, uint as uintKind};
 
@@ -322,5 +323,54 @@ pub fn write_base(out: &mut [u8], o: usize, b: Base)
         Base::Function => layout::header(out, o, 6, 6),
         Base::Bytes => layout::header(out, o, 6, 7),
         Base::String => layout::header(out, o, 6, 8),
+    }
+}
+
+// The place of the next `]` from a place on, or the end.
+fn next_shut(t: &[u8], from: usize) -> usize
+    requires { ⌜ from ≤ length (now t) ⌝ }
+    ensures { λ r. ⌜ (r ≡ from + span (one notShut) (drop from (now (t .entry)))) × (r ≤ length (now (t .entry))) ⌝ }
+{
+    let mut i = from;
+    while i < t.len() {
+        if t[i] == 93 {
+            return i;
+        }
+        i += 1;
+    }
+    i
+}
+
+// A place in the text, and one in the buffer.
+pub struct Cursor {
+    pub at: usize,
+    pub o: usize,
+}
+
+// Writes the record of the suffix from the `[` at `at`.
+fn write_suffix(t: &[u8], at: usize, out: &mut [u8], o: usize) -> Cursor
+    requires { ⌜ SuffixAt (now t) at o (now out) ⌝ }
+    ensures { λ r. ⌜ SuffixPut (now (t .entry)) at o (now (out .entry)) (now (out .exit)) (r .at) (r .o) ⌝ }
+{
+    let b = at + 1;
+    let e = next_shut(t, b);
+    if e == b {
+        layout::header(out, o, 6, 11);
+        return Cursor {
+            at: e + 1,
+            o: o + 6,
+        };
+    }
+    let m = text::number(18446744073709551615, &t[b..e]);
+    match m {
+        Maybe::Value(v) => {
+            layout::header(out, o, 14, 10);
+            layout::put8(out, o + 6, v);
+            Cursor {
+                at: e + 1,
+                o: o + 14,
+            }
+        }
+        Maybe::Absent => Cursor { at: e + 1, o },
     }
 }

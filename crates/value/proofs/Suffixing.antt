@@ -1,0 +1,168 @@
+-- Suffixes written, from the base outwards.
+-- Assumes nothing.
+use mathlib.Core.Path.{_≡_, refl, sym, _∙_, ap, subst}
+use mathlib.Core.Bool.{Bool, true, false, not, _||_}
+use mathlib.Core.List.{List, [], _∷_, _++_, append-assoc, append-nil}
+use mathlib.Core.Option.{Option, none, some}
+use Prim.Native.Nat.{ℕ, zero, suc, _+_, _*_, _-_, _≤_, _<_}
+use native.Mathlib.Omega.{arith}
+use native.Mathlib.Nat.{add-zero}
+use native.Mathlib.Numerals.{add-one}
+use lib.Dec.{eqb}
+use lib.ListN.{length, take, drop, getD, length-append, length-take, length-drop}
+use lib.Seq.{drop-drop, drop-cons, take-append-seam, drop-append-seam}
+use borrow.Author.Tests.{eq-eqb, ne-eqb}
+use Rattle.kinds.specs.Bytes.{lbracket, rbracket, plus, all, isDigit}
+use Rattle.kinds.specs.Decimal.{unsigned, plain, number, atMost, afterPlus}
+use Rattle.kinds.specs.Kind.{Suffix, sized, unsized}
+use Rattle.kinds.proofs.Logic.{both, left, right, all-weaken}
+use Rattle.model.specs.Text.{span, one}
+use Rattle.model.specs.KindText.{inside, longest, sizedBy}
+use Rattle.model.specs.Layout.{littleEndian, recordOf}
+use Rattle.model.specs.Record.{encodeSuffix, encodeSuffixes}
+use Rattle.model.proofs.Scans.{scan-none, scan-item, span-bytes, span-none, between-both, part-rest}
+use Rattle.model.proofs.Bounds.{record-size}
+use Rattle.layout.specs.Buffer.{put, head}
+use Rattle.layout.proofs.Puts.{put-then, length-head, length-put}
+use Rattle.text.specs.Found.{toOption}
+use Rattle.text.specs.declared.Maybe.{Maybe}
+use Rattle.text.specs.declared.Maybe.the-variants.{Value, Absent}
+use Rattle.value.proofs.Written.{headed}
+use Rattle.value.specs.Run.{Suffixed, notShut, Stands, SuffixAt, SuffixPut}
+
+-- the loop that looks for `]`
+module _ (t : List ℕ) (i n : ℕ) (h : i < length t) where
+  pub shut-here : getD t i 0 ≡ 93 → i + span (one notShut) (drop i t) ≡ n → i ≡ n
+  shut-here e q = scan-none (one notShut) t i n (rw (drop-cons t i 0 h, one, e)) q
+
+  pub shut-later : (getD t i 0 ≡ 93 → ⊥) → i + span (one notShut) (drop i t) ≡ n → i + 1 + span (one notShut) (drop (i + 1) t) ≡ n
+  shut-later e q = scan-item (one notShut) t i 1 n (rw (drop-cons t i 0 h, one, ne-eqb (getD t i 0) 93 e)) (omega arith) (omega arith) q
+
+-- what stands in a suffix's brackets has no `]`
+digit-not-shut : (c : ℕ) → isDigit c ≡ true → notShut c ≡ true
+digit-not-shut c e = let b = between-both 48 57 c e in
+    rw (ne-eqb c rbracket (λ q. omega arith))
+
+unsigned-digits : (t : List ℕ) (n : ℕ) → unsigned t ≡ some n → all isDigit t ≡ true
+unfolding unsigned
+unsigned-digits [] n e = cc
+unsigned-digits (c ∷ t) n e = go (all isDigit (c ∷ t)) refl
+  where
+    go : (b : Bool) → all isDigit (c ∷ t) ≡ b → b ≡ true
+    go true q = refl
+    go false q = let z : none ≡ some n = rw (unsigned, q) at e in cc
+
+number-unsigned : (m : ℕ) (t : List ℕ) (n : ℕ) → number m t ≡ some n → (k : ℕ) × (unsigned (afterPlus t) ≡ some k)
+unfolding number plain
+number-unsigned m t n e = go (unsigned (afterPlus t)) refl
+  where
+    go : (o : Option ℕ) → unsigned (afterPlus t) ≡ o → (k : ℕ) × (o ≡ some k)
+    go none q = let z : none ≡ some n = rw q at e in let y : _≡_ {A = ℕ} 0 1 = cc in absurd (omega arith)
+    go (some k) q = (k, refl)
+
+number-not-shut : (m : ℕ) (t : List ℕ) (n : ℕ) → number m t ≡ some n → all notShut t ≡ true
+number-not-shut m [] n e = refl
+number-not-shut m (c ∷ t) n e =
+    let (k, u) = number-unsigned m (c ∷ t) n e in
+    go (eqb c plus) refl (unsigned-digits (afterPlus (c ∷ t)) k u)
+  where
+    go : (b : Bool) → eqb c plus ≡ b → all isDigit (afterPlus (c ∷ t)) ≡ true → all notShut (c ∷ t) ≡ true
+    go true q d = both {a = notShut c} (rw (ne-eqb c rbracket (λ w. let z : eqb c plus ≡ false = rw w refl in let y : true ≡ false = sym q ∙ z in let x : _≡_ {A = ℕ} 0 1 = cc in omega arith))) (all-weaken isDigit notShut digit-not-shut t (rw (afterPlus, q) at d))
+    go false q d = all-weaken isDigit notShut digit-not-shut (c ∷ t) (rw (afterPlus, q) at d)
+
+inside-not-shut : (m : List ℕ) (s : Suffix) → inside m ≡ some s → all notShut m ≡ true
+unfolding inside
+inside-not-shut [] s e = refl
+inside-not-shut (c ∷ m) s e = go (number longest (c ∷ m)) refl
+  where
+    go : (o : Option ℕ) → number longest (c ∷ m) ≡ o → all notShut (c ∷ m) ≡ true
+    go none q = let z : none ≡ some s = rw (inside, q) at e in let y : _≡_ {A = ℕ} 0 1 = cc in absurd (omega arith)
+    go (some n) q = number-not-shut longest (c ∷ m) n q
+
+-- so it ends at the next `]`
+module _ (t : List ℕ) (at : ℕ) (m u : List ℕ) (s : Suffix) (i : Stands t at m u s) where
+  behind : drop (at + 1) t ≡ m ++ (rbracket ∷ u)
+  behind = sym (drop-drop 1 at t) ∙ rw (i .there)
+
+  next-shut : span (one notShut) (drop (at + 1) t) ≡ length m
+  next-shut = ap (span (one notShut)) behind
+      ∙ span-bytes (one notShut) notShut (λ c v q. rw (one, q)) m (rbracket ∷ u) (inside-not-shut m s (i .means))
+      ∙ rw (span-none (one notShut) (rbracket ∷ u) refl) (add-zero (length m))
+
+  between-is : take (length m) (drop (at + 1) t) ≡ m
+  between-is = rw behind (take-append-seam m (rbracket ∷ u))
+
+  pub room-there : at + length m + 2 ≤ length t
+  room-there = omega (arith, ap length (i .there), length-drop at t, length-append m (rbracket ∷ u))
+
+  -- what it means, where the next `]` is at e
+  module _ (e : ℕ) (q : e ≡ at + 1 + span (one notShut) (drop (at + 1) t)) where
+    place-is : e ≡ at + 1 + length m
+    place-is = q ∙ ap (at + 1 +_) next-shut
+
+    means-open : e ≡ at + 1 → s ≡ unsized
+    unfolding inside
+    means-open z = go m (i .means) (omega (arith, place-is))
+      where
+        go : (w : List ℕ) → inside w ≡ some s → length w ≡ 0 → s ≡ unsized
+        go [] f l = cc
+        go (c ∷ w) f l = absurd (omega arith)
+
+    means-number : (r : Option ℕ) → (e ≡ at + 1 → ⊥) → r ≡ number longest (take (e - (at + 1)) (drop (at + 1) t)) → sizedBy r ≡ some s
+    unfolding inside
+    means-number r z f =
+        let l : e - (at + 1) ≡ length m = omega (arith, place-is) in
+        let g : r ≡ number longest m = f ∙ rw (l, between-is) in
+        go m (i .means) (λ y. z (omega (arith, place-is))) g
+      where
+        go : (w : List ℕ) → inside w ≡ some s → (length w ≡ 0 → ⊥) → r ≡ number longest w → sizedBy r ≡ some s
+        go [] f y g = absurd (y refl)
+        go (c ∷ w) f y g = rw g f
+
+    means-sized : (n : Maybe) (v : ℕ) → (e ≡ at + 1 → ⊥) → toOption n ≡ number longest (take (e - (at + 1)) (drop (at + 1) t)) → n ≡ Value v → s ≡ sized v
+    unfolding toOption
+    means-sized n v z f g = let h : sizedBy (some v) ≡ some s = ap (λ (k : Maybe). sizedBy (toOption k)) (sym g) ∙ means-number (toOption n) z f in cc
+
+    means-absent : (n : Maybe) → (e ≡ at + 1 → ⊥) → toOption n ≡ number longest (take (e - (at + 1)) (drop (at + 1) t)) → n ≡ Absent → ⊥
+    unfolding toOption
+    means-absent n z f g = let h : none ≡ some s = ap (λ (k : Maybe). sizedBy (toOption k)) (sym g) ∙ means-number (toOption n) z f in let y : _≡_ {A = ℕ} 0 1 = cc in omega arith
+
+-- the record of a suffix, as it is written
+sized-record : (v : ℕ) → length (encodeSuffix 4 (sized v)) ≡ 14
+unfolding encodeSuffix littleEndian
+sized-record v = record-size 0xA (littleEndian 8 v)
+
+unsized-record : length (encodeSuffix 4 unsized) ≡ 6
+unfolding encodeSuffix
+unsized-record = record-size 0xB []
+
+module _ (t : List ℕ) (at o e : ℕ) (b : List ℕ) (p : SuffixAt t at o b) (q : e ≡ at + 1 + span (one notShut) (drop (at + 1) t)) where
+  pub room-sized : (n : Maybe) (v : ℕ) → (e ≡ at + 1 → ⊥) → toOption n ≡ number longest (take (e - (at + 1)) (drop (at + 1) t)) → n ≡ Value v → o + 14 ≤ length b
+  room-sized n v z f g =
+      let h : p .s ≡ sized v = means-sized t at (p .m) (p .u) (p .s) (p .stands) e q n v z f g in
+      omega (arith, p .room, ap (λ (x : Suffix). length (encodeSuffix 4 x)) h, sized-record v)
+
+  pub puts-open : (b₁ : List ℕ) → e ≡ at + 1 → b₁ ≡ put o (head 6 11) b → SuffixPut t at o b b₁ (e + 1) (o + 6)
+  unfolding encodeSuffix
+  puts-open b₁ z f = record {
+    wrote = λ m u s i. f ∙ ap (λ (x : List ℕ). put o x b) (sym (append-nil (head 6 11)) ∙ headed 11 6 [] refl) ∙ ap (λ (x : Suffix). put o (encodeSuffix 4 x) b) (sym (means-open t at m u s i e q z));
+    place = λ m u s i. omega (arith, place-is t at m u s i e q);
+    end = λ m u s i. omega (arith, unsized-record, ap (λ (x : Suffix). length (encodeSuffix 4 x)) (means-open t at m u s i e q z));
+  }
+
+  pub puts-sized : (n : Maybe) (v : ℕ) (b₁ b₂ : List ℕ) → (e ≡ at + 1 → ⊥) → toOption n ≡ number longest (take (e - (at + 1)) (drop (at + 1) t)) → n ≡ Value v
+      → b₁ ≡ put o (head 14 10) b → b₂ ≡ put (o + 6) (littleEndian 8 v) b₁ → SuffixPut t at o b b₂ (e + 1) (o + 14)
+  unfolding encodeSuffix littleEndian
+  puts-sized n v b₁ b₂ z f g x y =
+      let w : b₂ ≡ put o (recordOf 4 10 (littleEndian 8 v)) b
+      = put-then o (o + 6) (head 14 10) (littleEndian 8 v) b b₁ b₂ x y (omega (arith, length-head 14 10)) (omega (arith, length-head 14 10, room-sized n v z f g)) ∙ ap (λ (l : List ℕ). put o l b) (headed 10 14 (littleEndian 8 v) refl) in
+      record {
+        wrote = λ m u s i. w ∙ ap (λ (k : Suffix). put o (encodeSuffix 4 k) b) (sym (means-sized t at m u s i e q n v z f g));
+        place = λ m u s i. omega (arith, place-is t at m u s i e q);
+        end = λ m u s i. omega (arith, sized-record v, ap (λ (k : Suffix). length (encodeSuffix 4 k)) (means-sized t at m u s i e q n v z f g));
+      }
+
+  pub puts-absent : (n : Maybe) (b₁ : List ℕ) (x y : ℕ) → (e ≡ at + 1 → ⊥) → toOption n ≡ number longest (take (e - (at + 1)) (drop (at + 1) t)) → n ≡ Absent → SuffixPut t at o b b₁ x y
+  puts-absent n b₁ x y z f g = absurd (means-absent t at (p .m) (p .u) (p .s) (p .stands) e q n z f g)
+
+pub ruleset brackets = (shut-here, shut-later, room-sized, puts-open, puts-sized, puts-absent)
