@@ -8,7 +8,7 @@ use native.Mathlib.Nat.{add-zero, add-assoc}
 use native.Mathlib.Numerals.{add-one, add-two, add-three, add-four, add-five, add-six, add-seven}
 use lib.ListN.{length, take, drop, set, getD, length-append, length-take, length-drop, length-set, take-append-drop, List·getD-append}
 use lib.Seq.{sets, sets-eq, paste, paste-zero, paste-suc, length-paste, take-at, drop-at, take-append-le, take-suc, drop-cons, take-take, take-add, length-take-le, take-append-add, take-all, set-at, getD-take, drop-append-add, drop-drop}
-use Rattle.model.specs.Layout.{littleEndian, leValue}
+use Rattle.model.specs.Layout.{littleEndian, leValue, recordOf}
 use Rattle.layout.specs.Buffer.{put, shifted, inserted, head, frontOf}
 
 -- its length stays
@@ -76,6 +76,21 @@ front-puts o mark m l b b₁ b₂ b₃ h e f g =
     let u = put-then o (o + 6) (head (14 + m + l) 16) (littleEndian 2 mark) b b₁ b₂ e f (omega arith) (omega arith) in
     put-then o (o + 8) (head (14 + m + l) 16 ++ littleEndian 2 mark) (head (6 + m) 17) b b₂ b₃ u g (omega (arith, length-append (head (14 + m + l) 16) (littleEndian 2 mark))) (omega (arith, length-append (head (14 + m + l) 16) (littleEndian 2 mark)))
     ∙ rw append-assoc
+
+-- a head and what stands behind it is a record
+pub headed : (k n : ℕ) (body : List ℕ) → n ≡ 6 + length body → head n k ++ body ≡ recordOf 4 k body
+unfolding head recordOf
+headed k n body e = rw (e, append-assoc)
+
+-- a field's record is its front, its name and its kind
+pub field-record : (mark : ℕ) (nm u : List ℕ) → recordOf 4 0x10 (littleEndian 2 mark ++ (recordOf 4 0x11 nm ++ u)) ≡ frontOf mark (length nm) (length u) ++ (nm ++ u)
+unfolding frontOf
+field-record mark nm u =
+    let n : List ℕ = head (6 + length nm) 0x11 in
+    let e : recordOf 4 0x11 nm ≡ n ++ nm = sym (headed 0x11 (6 + length nm) nm refl) in
+    let l : 14 + length nm + length u ≡ 6 + length (littleEndian 2 mark ++ ((n ++ nm) ++ u))
+    = omega (arith, length-append (littleEndian 2 mark) ((n ++ nm) ++ u), length-two mark, length-append (n ++ nm) u, length-append n nm, length-head (6 + length nm) 0x11) in
+    rw e (sym (headed 0x10 (14 + length nm + length u) (littleEndian 2 mark ++ ((n ++ nm) ++ u)) l) ∙ simp append-assoc)
 
 -- the loop of copy: i bytes are copied
 pub record Copied (b₀ : List ℕ) (at : ℕ) (src b : List ℕ) (i : ℕ) : Type 0 where

@@ -4,3 +4,4 @@ pub mod Peels
 pub mod Runs
 pub mod Written
 pub mod Suffixing
+pub mod Leaves

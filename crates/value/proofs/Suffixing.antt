@@ -1,6 +1,6 @@
 -- Suffixes written, from the base outwards.
 -- Assumes nothing.
-use mathlib.Core.Path.{_≡_, refl, sym, _∙_, ap, subst}
+use mathlib.Core.Path.{_≡_, refl, sym, _∙_, ap, ap₂, subst}
 use mathlib.Core.Bool.{Bool, true, false, not, _||_}
 use mathlib.Core.List.{List, [], _∷_, _++_, append-assoc, append-nil}
 use mathlib.Core.Option.{Option, none, some}
@@ -9,7 +9,7 @@ use native.Mathlib.Omega.{arith}
 use native.Mathlib.Nat.{add-zero}
 use native.Mathlib.Numerals.{add-one}
 use lib.Dec.{eqb}
-use lib.ListN.{length, take, drop, getD, length-append, length-take, length-drop}
+use lib.ListN.{length, take, drop, getD, length-append, length-take, length-drop, take-append-drop}
 use lib.Seq.{drop-drop, drop-cons, take-append-seam, drop-append-seam}
 use borrow.Author.Tests.{eq-eqb, ne-eqb}
 use Rattle.kinds.specs.Bytes.{lbracket, rbracket, plus, all, isDigit}
@@ -20,15 +20,14 @@ use Rattle.model.specs.Text.{span, one}
 use Rattle.model.specs.KindText.{inside, longest, sizedBy}
 use Rattle.model.specs.Layout.{littleEndian, recordOf}
 use Rattle.model.specs.Record.{encodeSuffix, encodeSuffixes}
-use Rattle.model.proofs.Scans.{scan-none, scan-item, span-bytes, span-none, between-both, part-rest}
+use Rattle.model.proofs.Scans.{scan-none, scan-item, span-bytes, span-none, between-both, part-rest, stands-past}
 use Rattle.model.proofs.Bounds.{record-size}
 use Rattle.layout.specs.Buffer.{put, head}
-use Rattle.layout.proofs.Puts.{put-then, length-head, length-put}
+use Rattle.layout.proofs.Puts.{put-then, length-head, length-put, headed}
 use Rattle.text.specs.Found.{toOption}
 use Rattle.text.specs.declared.Maybe.{Maybe}
 use Rattle.text.specs.declared.Maybe.the-variants.{Value, Absent}
-use Rattle.value.proofs.Written.{headed}
-use Rattle.value.specs.Run.{Suffixed, notShut, Stands, SuffixAt, SuffixPut}
+use Rattle.value.specs.Run.{Suffixed, notShut, Stands, SuffixAt, SuffixPut, SuffixesAt, SuffixesPut}
 
 -- the loop that looks for `]`
 module _ (t : List ℕ) (i n : ℕ) (h : i < length t) where
@@ -165,4 +164,138 @@ module _ (t : List ℕ) (at o e : ℕ) (b : List ℕ) (p : SuffixAt t at o b) (q
   pub puts-absent : (n : Maybe) (b₁ : List ℕ) (x y : ℕ) → (e ≡ at + 1 → ⊥) → toOption n ≡ number longest (take (e - (at + 1)) (drop (at + 1) t)) → n ≡ Absent → SuffixPut t at o b b₁ x y
   puts-absent n b₁ x y z f g = absurd (means-absent t at (p .m) (p .u) (p .s) (p .stands) e q n z f g)
 
-pub ruleset brackets = (shut-here, shut-later, room-sized, puts-open, puts-sized, puts-absent)
+-- a text is suffixes in one way
+pub suffixed-unique : (ss os : List Suffix) (t : List ℕ) → Suffixed ss t → Suffixed os t → ss ≡ os
+suffixed-unique [] [] t a b = refl
+suffixed-unique [] (o ∷ os) t a b = let (m, u, e, f, r) = b in let q : [] ≡ lbracket ∷ (m ++ (rbracket ∷ u)) = sym a ∙ e in cc
+suffixed-unique (s ∷ ss) [] t a b = let (m, u, e, f, r) = a in let q : [] ≡ lbracket ∷ (m ++ (rbracket ∷ u)) = sym b ∙ e in cc
+suffixed-unique (s ∷ ss) (o ∷ os) t a b =
+    let (m, u, e, f, r) = a in
+    let (n, v, g, h, w) = b in
+    let x : Stands t 0 m u s = record { there = e; means = f } in
+    let y : Stands t 0 n v o = record { there = g; means = h } in
+    let l : length m ≡ length n = sym (next-shut t 0 m u s x) ∙ next-shut t 0 n v o y in
+    let p : m ≡ n = sym (between-is t 0 m u s x) ∙ rw l (between-is t 0 n v o y) in
+    let q : u ≡ v = sym (rest-is t m u s x) ∙ rw l (rest-is t n v o y) in
+    let z : some s ≡ some o = sym f ∙ ap inside p ∙ h in
+    let k : s ≡ o = cc in
+    ap₂ _∷_ k (suffixed-unique ss os u r (subst (Suffixed os) (sym q) w))
+  where
+    rest-is : (t m u : List ℕ) (s : Suffix) → Stands t 0 m u s → drop (suc (suc (length m))) t ≡ u
+    rest-is t m u s x = ap (drop (suc (suc (length m)))) (x .there) ∙ go m
+      where
+        go : (w : List ℕ) → drop (suc (length w)) (w ++ (rbracket ∷ u)) ≡ u
+        go [] = refl
+        go (c ∷ w) = go w
+
+encodes-last : (ss : List Suffix) (s : Suffix) → encodeSuffixes 4 (ss ++ (s ∷ [])) ≡ encodeSuffixes 4 ss ++ encodeSuffix 4 s
+unfolding encodeSuffixes
+encodes-last [] s = append-nil (encodeSuffix 4 s)
+encodes-last (o ∷ ss) s = ap (encodeSuffix 4 o ++_) (encodes-last ss s) ∙ sym (append-assoc (encodeSuffix 4 o) (encodeSuffixes 4 ss) (encodeSuffix 4 s))
+
+suffix-least : (s : Suffix) → 6 ≤ length (encodeSuffix 4 s)
+suffix-least (sized v) = omega (arith, sized-record v)
+suffix-least unsized = omega (arith, unsized-record)
+
+-- the loop: some suffixes are written, and those from p on are left
+pub record Writing (t : List ℕ) (from o : ℕ) (b₀ : List ℕ) (p q : ℕ) (b : List ℕ) : Type 0 where
+  pub done : List Suffix
+  pub left-over : List Suffix
+  pub whole : Suffixed (done ++ left-over) (drop from t)
+  pub wrote : b ≡ put o (encodeSuffixes 4 done) b₀
+  pub size : length b ≡ length b₀
+  pub place : q ≡ o + length (encodeSuffixes 4 done)
+  pub room : q + length (encodeSuffixes 4 left-over) ≤ length b₀
+  pub rest : Suffixed left-over (drop p t)
+  pub inside : p ≤ length t
+  pub short : length t ≤ 4096
+
+put-none : (o : ℕ) (b : List ℕ) → b ≡ put o [] b
+unfolding put
+put-none o b = rw add-zero (sym (take-append-drop o b))
+
+pub writing-start : (t : List ℕ) (from o : ℕ) (b : List ℕ) → SuffixesAt t from o b → Writing t from o b from o b
+unfolding encodeSuffixes
+writing-start t from o b a = record {
+  done = [];
+  left-over = a .suffixes;
+  whole = a .suffixed;
+  wrote = put-none o b;
+  size = refl;
+  place = sym (add-zero o);
+  room = a .room;
+  rest = a .suffixed;
+  inside = a .inside;
+  short = a .short;
+}
+
+module _ (t : List ℕ) (from o : ℕ) (b₀ : List ℕ) (p q : ℕ) (b : List ℕ) (w : Writing t from o b₀ p q b) where
+  some-left : (ls : List Suffix) → Suffixed ls (drop p t) → p < length t → (s : Suffix) × (os : List Suffix) × (ls ≡ s ∷ os)
+  some-left [] r h = absurd (omega (arith, ap length r, length-drop p t))
+  some-left (s ∷ os) r h = (s, os, refl)
+
+  pub writing-at : p < length t → SuffixAt t p q b
+  unfolding encodeSuffixes
+  writing-at h =
+      let (s, os, e) = some-left (w .left-over) (w .rest) h in
+      let r : Suffixed (s ∷ os) (drop p t) = subst (λ (l : List Suffix). Suffixed l (drop p t)) e (w .rest) in
+      let (m, u, f, g, n) = r in
+      let i : Stands t p m u s = record { there = f; means = g } in
+      let z : q + length (encodeSuffixes 4 (s ∷ os)) ≤ length b₀ = rw e at (w .room) in
+      let y = length-append (encodeSuffix 4 s) (encodeSuffixes 4 os) in
+      record {
+        m = m;
+        u = u;
+        s = s;
+        stands = i;
+        room = omega (arith, w .size, z, y);
+        short = w .short;
+        inside = omega (arith, room-there t p m u s i);
+        least = omega (arith, w .size, z, y, suffix-least s);
+      }
+
+  pub writing-next : (b₁ : List ℕ) (x y : ℕ) → p < length t → SuffixPut t p q b b₁ x y → Writing t from o b₀ x y b₁
+  unfolding encodeSuffixes
+  writing-next b₁ x y h c =
+      let (s, os, e) = some-left (w .left-over) (w .rest) h in
+      let r : Suffixed (s ∷ os) (drop p t) = subst (λ (l : List Suffix). Suffixed l (drop p t)) e (w .rest) in
+      let (m, u, f, g, n) = r in
+      let i : Stands t p m u s = record { there = f; means = g } in
+      let z : q + length (encodeSuffixes 4 (s ∷ os)) ≤ length b₀ = rw e at (w .room) in
+      let v = length-append (encodeSuffix 4 s) (encodeSuffixes 4 os) in
+      let k = encodes-last (w .done) s in
+      let l : length (encodeSuffixes 4 (w .done ++ (s ∷ []))) ≡ length (encodeSuffixes 4 (w .done)) + length (encodeSuffix 4 s) = ap length k ∙ length-append (encodeSuffixes 4 (w .done)) (encodeSuffix 4 s) in
+      let j : b₁ ≡ put o (encodeSuffixes 4 (w .done) ++ encodeSuffix 4 s) b₀
+      = put-then o q (encodeSuffixes 4 (w .done)) (encodeSuffix 4 s) b₀ b b₁ (w .wrote) (c .wrote m u s i) (w .place) (omega (arith, w .place, z, v)) in
+      let d : drop x t ≡ u = ap (λ (a : ℕ). drop a t) (c .place m u s i) ∙ behind-all m u s i in
+      record {
+        done = w .done ++ (s ∷ []);
+        left-over = os;
+        whole = subst (λ (a : List Suffix). Suffixed a (drop from t)) (sym (append-assoc (w .done) (s ∷ []) os)) (subst (λ (a : List Suffix). Suffixed (w .done ++ a) (drop from t)) e (w .whole));
+        wrote = j ∙ ap (λ (a : List ℕ). put o a b₀) (sym k);
+        size = ap length j ∙ length-put o (encodeSuffixes 4 (w .done) ++ encodeSuffix 4 s) b₀ (omega (arith, length-append (encodeSuffixes 4 (w .done)) (encodeSuffix 4 s), w .place, z, v));
+        place = omega (arith, c .end m u s i, w .place, l);
+        room = omega (arith, c .end m u s i, z, v);
+        rest = subst (Suffixed os) (sym d) n;
+        inside = omega (arith, c .place m u s i, room-there t p m u s i);
+        short = w .short;
+      }
+    where
+      behind-all : (m u : List ℕ) (s : Suffix) → Stands t p m u s → drop (p + length m + 2) t ≡ u
+      behind-all m u s i =
+          let e : p + length m + 2 ≡ p + 1 + length (m ++ (rbracket ∷ [])) = omega (arith, length-append m (rbracket ∷ [])) in
+          rw e (stands-past t (p + 1) (m ++ (rbracket ∷ [])) u (behind t p m u s i ∙ sym (append-assoc m (rbracket ∷ []) u)))
+
+  pub writing-less : (b₁ : List ℕ) (x y : ℕ) → p < length t → SuffixPut t p q b b₁ x y → length t - x < length t - p
+  writing-less b₁ x y h c =
+      let a = writing-at h in
+      omega (arith, c .place (a .m) (a .u) (a .s) (a .stands))
+
+  pub writing-end : length t ≤ p → SuffixesPut t from o b₀ b
+  writing-end h ss a = w .wrote ∙ ap (λ (l : List Suffix). put o (encodeSuffixes 4 l) b₀) (go (w .left-over) (w .rest) (w .whole))
+    where
+      go : (ls : List Suffix) → Suffixed ls (drop p t) → Suffixed (w .done ++ ls) (drop from t) → w .done ≡ ss
+      go [] r f = sym (append-nil (w .done)) ∙ suffixed-unique (w .done ++ []) ss (drop from t) f a
+      go (s ∷ os) r f = let (m, u, e, g, n) = r in absurd (omega (arith, ap length e, length-drop p t, h))
+
+pub ruleset brackets = (shut-here, shut-later, room-sized, puts-open, puts-sized, puts-absent, writing-start, writing-at, writing-next, writing-less, writing-end)

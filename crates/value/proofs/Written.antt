@@ -9,7 +9,7 @@ use Rattle.model.specs.Layout.{littleEndian, recordOf}
 use Rattle.model.specs.Record.{encodeElementary}
 use Rattle.model.proofs.Bounds.{record-size}
 use Rattle.layout.specs.Buffer.{put, head}
-use Rattle.layout.proofs.Puts.{put-then, length-head, length-two}
+use Rattle.layout.proofs.Puts.{put-then, length-head, length-two, headed}
 use Rattle.value.specs.declared.Base.{Base}
 use Rattle.value.specs.declared.Base.the-variants as base
 use Rattle.value.specs.declared.BitWidth.{BitWidth}
@@ -57,11 +57,6 @@ module _ (b : Base) where
   -- room for it
   pub room-by : (k o n : ℕ) → k ≡ length (encodeElementary 4 (toElementary b)) → o + length (encodeElementary 4 (toElementary b)) ≤ n → o + k ≤ n
   room-by k o n e h = omega arith
-
--- a head and what stands behind it is a record
-pub headed : (k n : ℕ) (body : List ℕ) → n ≡ 6 + length body → head n k ++ body ≡ recordOf 4 k body
-unfolding head recordOf
-headed k n body e = rw (e, append-assoc)
 
 pub numbered-puts : (o k n : ℕ) (b b₁ b₂ : List ℕ) → o + 8 ≤ length b → b₁ ≡ put o (head 8 k) b → b₂ ≡ put (o + 6) (littleEndian 2 n) b₁ → b₂ ≡ put o (recordOf 4 k (littleEndian 2 n)) b
 unfolding littleEndian

@@ -10,7 +10,8 @@ use lib.ListN.{length, drop}
 use Rattle.kinds.specs.Bytes.{lbracket, rbracket}
 use Rattle.kinds.specs.Kind.{Suffix}
 use Rattle.model.specs.KindText.{Result, ok, err, inside, Spelled, fromStr}
-use Rattle.model.specs.Record.{encodeSuffix, encodeSuffixes}
+use Rattle.model.specs.Record.{encodeElementary, encodeSuffix, encodeSuffixes, encodeField}
+use Rattle.model.specs.Tree.{field, elementary}
 use Rattle.layout.specs.Buffer.{put}
 use Rattle.value.specs.declared.Base.{Base}
 use Rattle.value.specs.declared.RunKind.{RunKind}
@@ -60,3 +61,27 @@ pub record SuffixPut (t : List ℕ) (at o : ℕ) (b b₁ : List ℕ) (at₁ o₁
   pub wrote : (m u : List ℕ) (s : Suffix) → Stands t at m u s → b₁ ≡ put o (encodeSuffix 4 s) b
   pub place : (m u : List ℕ) (s : Suffix) → Stands t at m u s → at₁ ≡ at + length m + 2
   pub end : (m u : List ℕ) (s : Suffix) → Stands t at m u s → o₁ ≡ o + length (encodeSuffix 4 s)
+
+-- the same for all suffixes from a place on
+pub record SuffixesAt (t : List ℕ) (from o : ℕ) (b : List ℕ) : Type 0 where
+  pub suffixes : List Suffix
+  pub suffixed : Suffixed suffixes (drop from t)
+  pub room : o + length (encodeSuffixes 4 suffixes) ≤ length b
+  pub inside : from ≤ length t
+  pub short : length t ≤ 4096
+
+abbrev pub SuffixesPut : List ℕ → ℕ → ℕ → List ℕ → List ℕ → Type 0
+SuffixesPut t from o b b₁ = (ss : List Suffix) → Suffixed ss (drop from t) → b₁ ≡ put o (encodeSuffixes 4 ss) b
+
+-- a field of an elementary kind: what writing it asks and leaves
+pub record LeafAt (t : List ℕ) (k : Base) (from len : ℕ) (nm : List ℕ) (o : ℕ) (b : List ℕ) : Type 0 where
+  pub suffixes : List Suffix
+  pub suffixed : Suffixed suffixes (drop from t)
+  pub size : len ≡ length (encodeSuffixes 4 suffixes)
+  pub room : o + 14 + length nm + length (encodeElementary 4 (toElementary k)) + len ≤ length b
+  pub inside : from ≤ length t
+  pub short : length t ≤ 4096
+  pub small : length b ≤ 1048576
+
+abbrev pub LeafPut : List ℕ → Base → ℕ → ℕ → List ℕ → ℕ → List ℕ → List ℕ → Type 0
+LeafPut t k from mark nm o b b₁ = (ss : List Suffix) → Suffixed ss (drop from t) → b₁ ≡ put o (encodeField 4 (field mark nm (elementary (toElementary k)) ss)) b

@@ -10,7 +10,7 @@ ghost use Rattle.model.specs.Layout.{littleEndian, recordOf};
 ghost use Rattle.model.specs.Record.{encodeElementary, encodeSuffixes};
 ghost use Rattle.layout.specs.Buffer.{put};
 ghost use Rattle.model.specs.Text.{span, one};
-ghost use Rattle.value.specs.Run.{RunIs, notShut, SuffixAt, SuffixPut};
+ghost use Rattle.value.specs.Run.{RunIs, notShut, SuffixAt, SuffixPut, SuffixesAt, SuffixesPut, LeafAt, LeafPut};
 ghost use Rattle.value.specs.Elementary.{toElementary, widthOf, checkedWidth, lengthOf, checkedLength, toResult, widthNumber, lengthNumber, widthBehind, lengthBehind, ofWidth, ofLength};
 ghost use Rattle.kinds.specs.Kind.{int as intKind, uint as uintKind};
 
@@ -373,4 +373,41 @@ fn write_suffix(t: &[u8], at: usize, out: &mut [u8], o: usize) -> Cursor
         }
         Maybe::Absent => Cursor { at: e + 1, o },
     }
+}
+
+// Writes the records of the suffixes from a place on.
+pub fn write_suffixes(t: &[u8], from: usize, out: &mut [u8], o: usize)
+    requires { ⌜ SuffixesAt (now t) from o (now out) ⌝ }
+    ensures { λ _. ⌜ SuffixesPut (now (t .entry)) from o (now (out .entry)) (now (out .exit)) ⌝ }
+{
+    let mut p = from;
+    let mut q = o;
+    while p < t.len() {
+        let c = write_suffix(t, p, out, q);
+        p = c.at;
+        q = c.o;
+    }
+}
+
+// Writes the record of a field of an elementary kind: its mark, its name, its base, and its suffixes from a place of the text on, whose
+// records take len bytes.
+pub fn write_leaf(
+    t: &[u8],
+    base: Base,
+    from: usize,
+    len: usize,
+    mark: usize,
+    name: &[u8],
+    out: &mut [u8],
+    o: usize,
+)
+    requires { ⌜ LeafAt (now t) base from len (now name) o (now out) ⌝ }
+    ensures { λ _. ⌜ LeafPut (now (t .entry)) base from mark (now (name .entry)) o (now (out .entry)) (now (out .exit)) ⌝ }
+{
+    let m = name.len();
+    let k = base_length(base);
+    layout::front(out, o, mark, m, k + len);
+    layout::copy(out, o + 14, name);
+    write_base(out, o + 14 + m, base);
+    write_suffixes(t, from, out, o + 14 + m + k);
 }
