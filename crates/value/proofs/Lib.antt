@@ -5,3 +5,4 @@ pub mod Runs
 pub mod Written
 pub mod Suffixing
 pub mod Leaves
+pub mod KindCall

@@ -81,7 +81,7 @@ pub record LeafAt (t : List ℕ) (k : Base) (from len : ℕ) (nm : List ℕ) (o 
   pub room : o + 14 + length nm + length (encodeElementary 4 (toElementary k)) + len ≤ length b
   pub inside : from ≤ length t
   pub short : length t ≤ 4096
-  pub small : length b ≤ 1048576
+  pub small : length nm + len ≤ 65536
 
 abbrev pub LeafPut : List ℕ → Base → ℕ → ℕ → List ℕ → ℕ → List ℕ → List ℕ → Type 0
 LeafPut t k from mark nm o b b₁ = (ss : List Suffix) → Suffixed ss (drop from t) → b₁ ≡ put o (encodeField 4 (field mark nm (elementary (toElementary k)) ss)) b

@@ -1,0 +1,32 @@
+-- What a call says and leaves, by how it ends: refused, too little room, or written.
+-- Assumes nothing.
+use mathlib.Core.Path.{_≡_, refl, sym, _∙_, ap}
+use mathlib.Core.List.{List, _++_}
+use Prim.Native.Nat.{ℕ, _≤_, _<_}
+use native.Mathlib.Nat.{zero-add}
+use lib.Dec.{ltb}
+use lib.ListN.{length, drop}
+use borrow.Author.Tests.{lt-ltb, le-ltb}
+use Rattle.model.specs.declared.Refusal.{Refusal}
+use Rattle.model.specs.declared.Refusal.the-variants.{NoRoom}
+use Rattle.model.specs.declared.Answer.{Answer}
+use Rattle.model.specs.declared.Answer.the-variants.{Accepted, Refused}
+use Rattle.model.specs.Answer.{Output, writes, refuses, said, outcome, after}
+use Rattle.layout.specs.Buffer.{put}
+
+-- the two halves of a call's contract: what it says, and all of the lent buffer at exit
+abbrev pub Ends : Output → List ℕ → List ℕ → Answer → Type 0
+Ends o b b₁ r = (said r ≡ outcome (length b) o) × (b₁ ≡ after b o)
+
+module _ (o : Output) (b : List ℕ) (r : Answer) where
+  pub ends-refused : (w : Refusal) (p : ℕ) → r ≡ Refused w p → o ≡ refuses w p → Ends o b b r
+  unfolding said outcome after
+  ends-refused w p e f = (rw (e, f), rw f)
+
+  pub ends-full : (u : List ℕ) → r ≡ Refused NoRoom 0 → o ≡ writes u → length b < length u → Ends o b b r
+  unfolding said outcome after
+  ends-full u e f h = (rw (e, f, outcome, lt-ltb (length b) (length u) h), rw (f, after, lt-ltb (length b) (length u) h))
+
+  pub ends-written : (u b₁ : List ℕ) → r ≡ Accepted (length u) → o ≡ writes u → length u ≤ length b → b₁ ≡ put 0 u b → Ends o b b₁ r
+  unfolding said outcome after put
+  ends-written u b₁ e f h g = (rw (e, f, outcome, le-ltb (length b) (length u) h), rw (f, after, le-ltb (length b) (length u) h) (g ∙ rw zero-add))
