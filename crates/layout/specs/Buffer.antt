@@ -1,5 +1,6 @@
 -- What a lent buffer holds after bytes were put into it.
 -- Assumes nothing.
+use mathlib.Core.Path.{_≡_}
 use mathlib.Core.List.{List, [], _∷_, _++_}
 use Prim.Native.Nat.{ℕ, _+_, _-_}
 use lib.ListN.{length, take, drop}
@@ -24,3 +25,9 @@ head n k = littleEndian 4 n ++ littleEndian 2 k
 -- the front of a field's record: its head, its mark and the head of its name, for a name of m bytes and a kind of l
 unfoldable pub frontOf : ℕ → ℕ → ℕ → List ℕ
 frontOf mark m l = head (14 + m + l) 0x10 ++ (littleEndian 2 mark ++ head (6 + m) 0x11)
+
+-- b is b₀ with the bytes u at o, and before o as it was. What follows them is not told
+pub record Wrote (o : ℕ) (b₀ b u : List ℕ) : Type 0 where
+  pub size : length b ≡ length b₀
+  pub keep : take o b ≡ take o b₀
+  pub front : take (o + length u) b ≡ take o b₀ ++ u
