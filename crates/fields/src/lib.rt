@@ -2,10 +2,12 @@
 // in the record; what a failed reading leaves behind its place is not told.
 use model::Refusal;
 use model::Sort;
+use text::Maybe;
 ghost use mathlib.Core.Path.{_≡_};
 ghost use Prim.Native.Nat.{_+_, _≤_, _<_};
 ghost use lib.ListN.{length};
 ghost use Rattle.fields.specs.Words.{WordIs, Looked, markOf, locationOf, nameAt, NamedIs};
+ghost use Rattle.fields.specs.Scratch.{Closes, BracketIs, InsideIs};
 
 // A part of the text, by its places.
 pub struct Spot {
@@ -117,4 +119,76 @@ fn name(from: usize, to: usize, at: usize, mark: usize) -> Named
         to,
         next: to,
     }
+}
+
+// What a reading answers: the place behind what was read and how many bytes its record takes; why it fails and where; or where one tuple too
+// many opens.
+pub enum Read {
+    Got { next: usize, len: usize },
+    Bad { refusal: Refusal, at: usize },
+    Deep { at: usize },
+}
+
+// The end of a list.
+pub fn close(s: &[u8], at: usize) -> Read
+    requires { ⌜ at ≤ length (now s) ⌝ }
+    ensures { λ r. ⌜ Closes (now (s .entry)) at r ⌝ }
+{
+    let v = look(s, at);
+    if v.byte == 41 {
+        return Read::Got {
+            next: v.at + 1,
+            len: 0,
+        };
+    }
+    if v.byte == 256 {
+        return Read::Bad {
+            refusal: Refusal::Eos,
+            at: v.at,
+        };
+    }
+    Read::Bad {
+        refusal: Refusal::ExpectClose,
+        at: v.at,
+    }
+}
+
+// A tuple's suffix, with the place behind it.
+pub enum Bracket {
+    Sized { n: u64, next: usize },
+    Unsized { next: usize },
+    Missing,
+}
+
+// `array_suffix`: `[`, digits at once or none, `]`.
+pub fn array_suffix(s: &[u8], at: usize) -> Bracket
+    requires { ⌜ at ≤ length (now s) ⌝ }
+    ensures { λ r. ⌜ BracketIs (now (s .entry)) at r ⌝ }
+{
+    let v = look(s, at);
+    if v.byte == 91 {
+        return in_brackets(s, v.at + 1);
+    }
+    Bracket::Missing
+}
+
+// The suffix behind its `[`.
+fn in_brackets(s: &[u8], b: usize) -> Bracket
+    requires { ⌜ b ≤ length (now s) ⌝ }
+    ensures { λ r. ⌜ InsideIs (now (s .entry)) b r ⌝ }
+{
+    let n = text::digits(&s[b..]);
+    let e = b + n;
+    let v = look(s, e);
+    if v.byte == 93 {
+        if n == 0 {
+            return Bracket::Unsized { next: v.at + 1 };
+        }
+        let m = text::plain(18446744073709551615, &s[b..e]);
+        return match m {
+            Maybe::Value(n) => Bracket::Sized { n, next: v.at + 1 },
+            Maybe::Absent => Bracket::Missing,
+        };
+    }
+    Bracket::Missing
 }

@@ -1,0 +1,63 @@
+-- What the readers answer and leave, by the definitions: a reading's answer is told by the record of what was read.
+-- Assumes nothing.
+use mathlib.Core.Path.{_≡_}
+use mathlib.Core.List.{List, []}
+use Prim.Native.Nat.{ℕ, _+_, _*_, _-_, _≤_, _<_}
+use lib.ListN.{length, drop}
+use Rattle.kinds.specs.Bytes.{isDigit, rbracket}
+use Rattle.kinds.specs.Kind.{Suffix, sized, unsized}
+use Rattle.model.specs.declared.Refusal.{Refusal}
+use Rattle.model.specs.declared.Sort.{Sort}
+use Rattle.model.specs.Text.{span, one, part}
+use Rattle.model.specs.Tree.{Field, Fields, field}
+use Rattle.model.specs.Parser.{Ans, got, bad, deep, Found, found, missing, Parser, onAns, then, _>>=_, return, look, option, optionalName}
+use Rattle.model.specs.Reading.{FieldKind, runKind, ofDigits, closed, opened, arraySuffix, suffixes, marks, fieldBy, closing, list, tupleKind}
+use Rattle.model.specs.Record.{encodeBase, encodeSuffixes, encodeField, encodeFields}
+use Rattle.layout.specs.Buffer.{Wrote}
+use Rattle.fields.specs.declared.Read.{Read}
+use Rattle.fields.specs.declared.Read.the-variants.{Got, Bad, Deep}
+use Rattle.fields.specs.declared.Bracket.{Bracket}
+use Rattle.fields.specs.declared.Bracket.the-variants as bracket
+
+-- what the cases of an answer say, and the bytes that are written
+unfoldable pub toRead : Ans (List ℕ) → Read
+toRead (got u n) = Got n (length u)
+toRead (bad w p) = Bad w p
+toRead (deep p) = Deep p
+
+unfoldable pub bytesOf : Ans (List ℕ) → List ℕ
+bytesOf (got u n) = u
+bytesOf (bad w p) = []
+bytesOf (deep p) = []
+
+-- where an answer lies: past `at` and within the text, and its record takes at most 10 bytes for each byte read, less k. It follows from the
+-- definitions, and is there for `omega` to find
+abbrev pub Within : ℕ → List ℕ → ℕ → Read → Type 0
+Within k s at (Got n l) = (at < n) × (n ≤ length s) × (l + k + 10 * at ≤ 10 * n)
+Within k s at (Bad w p) = Unit {0}
+Within k s at (Deep p) = Unit {0}
+
+-- the end of a list, of which there is no record
+pub record Closes (s : List ℕ) (at : ℕ) (r : Read) : Type 0 where
+  pub same : r ≡ toRead (onAns (encodeFields 4) (closing s at))
+  pub within : Within 10 s at r
+
+-- what the cases of a tuple's suffix say
+unfoldable pub toFound : Bracket → Found Suffix
+toFound (bracket.Sized n p) = found (sized n) p
+toFound (bracket.Unsized p) = found unsized p
+toFound bracket.Missing = missing
+
+abbrev pub Behind : List ℕ → ℕ → Bracket → Type 0
+Behind s at (bracket.Sized n p) = (at + 2 ≤ p) × (p ≤ length s)
+Behind s at (bracket.Unsized p) = (at + 1 ≤ p) × (p ≤ length s)
+Behind s at bracket.Missing = Unit {0}
+
+pub record BracketIs (s : List ℕ) (at : ℕ) (r : Bracket) : Type 0 where
+  pub same : toFound r ≡ arraySuffix s at
+  pub behind : Behind s (at + 1) r
+
+-- behind the `[`
+pub record InsideIs (s : List ℕ) (b : ℕ) (r : Bracket) : Type 0 where
+  pub same : toFound r ≡ (let d = span (one isDigit) (drop b s) in closed (ofDigits (part s b d)) (look rbracket s (b + d)))
+  pub behind : Behind s b r
