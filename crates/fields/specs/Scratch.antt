@@ -61,3 +61,21 @@ pub record BracketIs (s : List ℕ) (at : ℕ) (r : Bracket) : Type 0 where
 pub record InsideIs (s : List ℕ) (b : ℕ) (r : Bracket) : Type 0 where
   pub same : toFound r ≡ (let d = span (one isDigit) (drop b s) in closed (ofDigits (part s b d)) (look rbracket s (b + d)))
   pub behind : Behind s b r
+
+-- what a reader that writes at o asks, where d more tuples may open: a place within a text of at most 4,096 bytes, and 10 bytes of room for each
+-- byte left and for each tuple, less k
+pub record Room (k d : ℕ) (s : List ℕ) (at o : ℕ) (b : List ℕ) : Type 0 where
+  pub inside : at ≤ length s
+  pub small : length s ≤ 4096
+  pub room : o + 10 * (length s - at) + 10 * d ≤ length b + k
+  pub short : length b ≤ 65536
+
+-- a tuple's suffixes, and their records
+pub record Grows (s : List ℕ) (at o : ℕ) (b₀ b : List ℕ) (n l : ℕ) : Type 0 where
+  pub read : List Suffix
+  pub same : suffixes s at ≡ got read n
+  pub size : l ≡ length (encodeSuffixes 4 read)
+  pub wrote : Wrote o b₀ b (encodeSuffixes 4 read)
+  pub low : at ≤ n
+  pub inside : n ≤ length s
+  pub paid : l + 10 * at ≤ 10 * n

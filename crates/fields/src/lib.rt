@@ -7,7 +7,7 @@ ghost use mathlib.Core.Path.{_≡_};
 ghost use Prim.Native.Nat.{_+_, _≤_, _<_};
 ghost use lib.ListN.{length};
 ghost use Rattle.fields.specs.Words.{WordIs, Looked, markOf, locationOf, nameAt, NamedIs};
-ghost use Rattle.fields.specs.Scratch.{Closes, BracketIs, InsideIs};
+ghost use Rattle.fields.specs.Scratch.{Closes, BracketIs, InsideIs, Room, Grows};
 
 // A part of the text, by its places.
 pub struct Spot {
@@ -191,4 +191,38 @@ fn in_brackets(s: &[u8], b: usize) -> Bracket
         };
     }
     Bracket::Missing
+}
+
+// The place behind what was read, and how many bytes its records take.
+pub struct Grown {
+    pub next: usize,
+    pub len: usize,
+}
+
+// A tuple's suffixes, written one behind the other.
+pub fn suffixes(s: &[u8], at: usize, out: &mut [u8], o: usize) -> Grown
+    requires { ⌜ Room 0 0 (now s) at o (now out) ⌝ }
+    ensures { λ r. ⌜ Grows (now (s .entry)) at o (now (out .entry)) (now (out .exit)) (r .next) (r .len) ⌝ }
+{
+    let mut p = at;
+    let mut len: usize = 0;
+    loop {
+        let b = array_suffix(s, p);
+        match b {
+            Bracket::Sized { n, next } => {
+                layout::header(out, o + len, 14, 10);
+                layout::put8(out, o + len + 6, n);
+                p = next;
+                len += 14;
+            }
+            Bracket::Unsized { next } => {
+                layout::header(out, o + len, 6, 11);
+                p = next;
+                len += 6;
+            }
+            Bracket::Missing => {
+                return Grown { next: p, len };
+            }
+        }
+    }
 }

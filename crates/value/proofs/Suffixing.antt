@@ -127,11 +127,11 @@ module _ (t : List ℕ) (at : ℕ) (m u : List ℕ) (s : Suffix) (i : Stands t a
     means-absent n z f g = let h : none ≡ some s = ap (λ (k : Maybe). sizedBy (toOption k)) (sym g) ∙ means-number (toOption n) z f in let y : _≡_ {A = ℕ} 0 1 = cc in omega arith
 
 -- the record of a suffix, as it is written
-sized-record : (v : ℕ) → length (encodeSuffix 4 (sized v)) ≡ 14
+pub sized-record : (v : ℕ) → length (encodeSuffix 4 (sized v)) ≡ 14
 unfolding encodeSuffix littleEndian
 sized-record v = record-size 0xA (littleEndian 8 v)
 
-unsized-record : length (encodeSuffix 4 unsized) ≡ 6
+pub unsized-record : length (encodeSuffix 4 unsized) ≡ 6
 unfolding encodeSuffix
 unsized-record = record-size 0xB []
 
@@ -188,7 +188,7 @@ suffixed-unique (s ∷ ss) (o ∷ os) t a b =
         go [] = refl
         go (c ∷ w) = go w
 
-encodes-last : (ss : List Suffix) (s : Suffix) → encodeSuffixes 4 (ss ++ (s ∷ [])) ≡ encodeSuffixes 4 ss ++ encodeSuffix 4 s
+pub encodes-last : (ss : List Suffix) (s : Suffix) → encodeSuffixes 4 (ss ++ (s ∷ [])) ≡ encodeSuffixes 4 ss ++ encodeSuffix 4 s
 unfolding encodeSuffixes
 encodes-last [] s = append-nil (encodeSuffix 4 s)
 encodes-last (o ∷ ss) s = ap (encodeSuffix 4 o ++_) (encodes-last ss s) ∙ sym (append-assoc (encodeSuffix 4 o) (encodeSuffixes 4 ss) (encodeSuffix 4 s))
