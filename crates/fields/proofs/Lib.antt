@@ -1,3 +1,4 @@
 pub mod Spots
 pub mod Ends
 pub mod Growing
+pub mod LeafFields

@@ -1,19 +1,23 @@
 -- What the readers answer and leave, by the definitions: a reading's answer is told by the record of what was read.
 -- Assumes nothing.
 use mathlib.Core.Path.{_≡_}
+use mathlib.Core.Bool.{Bool, true, false}
 use mathlib.Core.List.{List, []}
 use Prim.Native.Nat.{ℕ, _+_, _*_, _-_, _≤_, _<_}
+use lib.Dec.{eqb}
 use lib.ListN.{length, drop}
 use Rattle.kinds.specs.Bytes.{isDigit, rbracket}
 use Rattle.kinds.specs.Kind.{Suffix, sized, unsized}
 use Rattle.model.specs.declared.Refusal.{Refusal}
 use Rattle.model.specs.declared.Sort.{Sort}
 use Rattle.model.specs.Text.{span, one, part}
-use Rattle.model.specs.Tree.{Field, Fields, field}
+use Rattle.model.specs.Tree.{Field, Fields, field, unmarked}
 use Rattle.model.specs.Parser.{Ans, got, bad, deep, Found, found, missing, Parser, onAns, then, _>>=_, return, look, option, optionalName}
 use Rattle.model.specs.Reading.{FieldKind, runKind, ofDigits, closed, opened, arraySuffix, suffixes, marks, fieldBy, closing, list, tupleKind}
 use Rattle.model.specs.Record.{encodeBase, encodeSuffixes, encodeField, encodeFields}
 use Rattle.layout.specs.Buffer.{Wrote}
+use Rattle.value.specs.declared.Base.{Base}
+use Rattle.value.specs.declared.Base.the-variants as base
 use Rattle.fields.specs.declared.Read.{Read}
 use Rattle.fields.specs.declared.Read.the-variants.{Got, Bad, Deep}
 use Rattle.fields.specs.declared.Bracket.{Bracket}
@@ -79,3 +83,34 @@ pub record Grows (s : List ℕ) (at o : ℕ) (b₀ b : List ℕ) (n l : ℕ) : T
   pub low : at ≤ n
   pub inside : n ≤ length s
   pub paid : l + 10 * at ≤ 10 * n
+
+-- a data location may stand behind an elementary kind, with suffixes whose records take l bytes
+abbrev pub locatedBase : Base → Bool
+locatedBase (base.Int w) = false
+locatedBase (base.Uint w) = false
+locatedBase base.Address = false
+locatedBase base.Bool = false
+locatedBase (base.FixedBytes n) = false
+locatedBase base.Function = false
+locatedBase base.Bytes = true
+locatedBase base.String = true
+
+unfoldable pub locatedBy : Base → ℕ → Bool
+locatedBy b l = elim (eqb l 0) [ true ↦ locatedBase b | false ↦ true ]
+
+-- what stands behind a kind in a list of a sort
+unfoldable pub behindKind : Sort → FieldKind → Parser Field
+behindKind sort k = do
+  m ← option (marks sort k) unmarked
+  nm ← optionalName
+  return (field m nm (k .base) (k .suffixes))
+
+-- the record of a field whose elementary kind begins at p
+unfoldable pub leafOf : Sort → List ℕ → ℕ → Ans (List ℕ)
+leafOf sort s p = onAns (encodeField 4) (then (runKind s p) (λ k n. behindKind sort k s n))
+
+-- what a reader that writes at o does, where what it reads has the record that a tells
+pub record Put (k : ℕ) (s : List ℕ) (at o : ℕ) (b₀ b : List ℕ) (a : Ans (List ℕ)) (r : Read) : Type 0 where
+  pub same : r ≡ toRead a
+  pub within : Within k s at r
+  pub wrote : Wrote o b₀ b (bytesOf a)

@@ -3,11 +3,13 @@
 use model::Refusal;
 use model::Sort;
 use text::Maybe;
+use value::Base;
+use value::RunKind;
 ghost use mathlib.Core.Path.{_≡_};
 ghost use Prim.Native.Nat.{_+_, _≤_, _<_};
 ghost use lib.ListN.{length};
 ghost use Rattle.fields.specs.Words.{WordIs, Looked, markOf, locationOf, nameAt, NamedIs};
-ghost use Rattle.fields.specs.Scratch.{Closes, BracketIs, InsideIs, Room, Grows};
+ghost use Rattle.fields.specs.Scratch.{Closes, BracketIs, InsideIs, Room, Grows, locatedBy, leafOf, Put};
 
 // A part of the text, by its places.
 pub struct Spot {
@@ -224,5 +226,48 @@ pub fn suffixes(s: &[u8], at: usize, out: &mut [u8], o: usize) -> Grown
                 return Grown { next: p, len };
             }
         }
+    }
+}
+
+// Whether a data location may stand behind an elementary kind with suffixes whose records take len bytes: "at arrays, tuples, `bytes` and
+// `string`".
+fn is_located(b: Base, len: usize) -> bool
+    ensures { λ r. ⌜ r ≡ locatedBy b len ⌝ }
+{
+    if len == 0 {
+        return match b {
+            Base::Int(_) => false,
+            Base::Uint(_) => false,
+            Base::Address => false,
+            Base::Bool => false,
+            Base::FixedBytes(_) => false,
+            Base::Function => false,
+            Base::Bytes => true,
+            Base::String => true,
+        };
+    }
+    true
+}
+
+// The field of a list of a sort whose elementary kind begins at p, written in order.
+pub fn leaf(s: &[u8], p: usize, sort: Sort, out: &mut [u8], o: usize) -> Read
+    requires { ⌜ Room 0 0 (now s) p o (now out) ⌝ }
+    ensures { λ r. ⌜ Put 0 (now (s .entry)) p o (now (out .entry)) (now (out .exit)) (leafOf sort (now (s .entry)) p) r ⌝ }
+{
+    let e = p + text::run(&s[p..]);
+    let t = &s[p..e];
+    let k = value::from_str(t);
+    match k {
+        RunKind::Read { base, from, len } => {
+            let v = mark_name(s, e, sort, is_located(base, len));
+            let a = v.from;
+            let b = v.to;
+            value::write_leaf(t, base, from, len, v.mark, &s[a..b], out, o);
+            Read::Got {
+                next: v.next,
+                len: 14 + (b - a) + value::base_length(base) + len,
+            }
+        }
+        RunKind::Refused(w) => Read::Bad { refusal: w, at: p },
     }
 }

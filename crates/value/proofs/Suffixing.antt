@@ -193,7 +193,7 @@ unfolding encodeSuffixes
 encodes-last [] s = append-nil (encodeSuffix 4 s)
 encodes-last (o ∷ ss) s = ap (encodeSuffix 4 o ++_) (encodes-last ss s) ∙ sym (append-assoc (encodeSuffix 4 o) (encodeSuffixes 4 ss) (encodeSuffix 4 s))
 
-suffix-least : (s : Suffix) → 6 ≤ length (encodeSuffix 4 s)
+pub suffix-least : (s : Suffix) → 6 ≤ length (encodeSuffix 4 s)
 suffix-least (sized v) = omega (arith, sized-record v)
 suffix-least unsized = omega (arith, unsized-record)
 
