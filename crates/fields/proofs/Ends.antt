@@ -32,10 +32,10 @@ use Rattle.fields.specs.Scratch.{toRead, Closes, toFound, Behind, Bracke
 
 -- a look that the code made
 module _ (s : List ℕ) (at p b c : ℕ) (v : Looked s at p b) where
-  seen : b ≡ c → eqb (peek s (skip s at)) c ≡ true
+  pub seen : b ≡ c → eqb (peek s (skip s at)) c ≡ true
   seen e = eq-eqb _ c (ap (peek s) (sym (v .place)) ∙ sym (v .byte) ∙ e)
 
-  unseen : (b ≡ c → ⊥) → eqb (peek s (skip s at)) c ≡ false
+  pub unseen : (b ≡ c → ⊥) → eqb (peek s (skip s at)) c ≡ false
   unseen n = ne-eqb _ c (λ e. n (v .byte ∙ ap (peek s) (v .place) ∙ e))
 
   pub look-found : b ≡ c → look c s at ≡ found tt (p + 1)

@@ -2,3 +2,5 @@ pub mod Spots
 pub mod Ends
 pub mod Growing
 pub mod LeafFields
+pub mod Naming
+pub mod Family

@@ -2,8 +2,8 @@
 -- Assumes nothing.
 use mathlib.Core.Path.{_≡_}
 use mathlib.Core.Bool.{Bool, true, false}
-use mathlib.Core.List.{List, []}
-use Prim.Native.Nat.{ℕ, _+_, _*_, _-_, _≤_, _<_}
+use mathlib.Core.List.{List, [], _++_}
+use Prim.Native.Nat.{ℕ, suc, _+_, _*_, _-_, _≤_, _<_}
 use lib.Dec.{eqb}
 use lib.ListN.{length, drop}
 use Rattle.kinds.specs.Bytes.{isDigit, rbracket}
@@ -13,13 +13,15 @@ use Rattle.model.specs.declared.Sort.{Sort}
 use Rattle.model.specs.Text.{span, one, part}
 use Rattle.model.specs.Tree.{Field, Fields, field, unmarked}
 use Rattle.model.specs.Parser.{Ans, got, bad, deep, Found, found, missing, Parser, onAns, then, _>>=_, return, look, option, optionalName}
-use Rattle.model.specs.Reading.{FieldKind, runKind, ofDigits, closed, opened, arraySuffix, suffixes, marks, fieldBy, closing, list, tupleKind}
+use Rattle.model.specs.Reading.{FieldKind, runKind, ofDigits, closed, opened, arraySuffix, suffixes, marks, fieldBy, closing, follow, rest, list, tupleKind, canSpecifyLocation}
 use Rattle.model.specs.Record.{encodeBase, encodeSuffixes, encodeField, encodeFields}
 use Rattle.layout.specs.Buffer.{Wrote}
 use Rattle.value.specs.declared.Base.{Base}
 use Rattle.value.specs.declared.Base.the-variants as base
 use Rattle.fields.specs.declared.Read.{Read}
 use Rattle.fields.specs.declared.Read.the-variants.{Got, Bad, Deep}
+use Rattle.fields.specs.declared.Item.{Item}
+use Rattle.fields.specs.declared.Item.the-variants as item
 use Rattle.fields.specs.declared.Bracket.{Bracket}
 use Rattle.fields.specs.declared.Bracket.the-variants as bracket
 
@@ -114,3 +116,71 @@ pub record Put (k : ℕ) (s : List ℕ) (at o : ℕ) (b₀ b : List ℕ) (a : An
   pub same : r ≡ toRead a
   pub within : Within k s at r
   pub wrote : Wrote o b₀ b (bytesOf a)
+
+-- the bytes of a field's kind
+unfoldable pub kindBytes : FieldKind → List ℕ
+kindBytes k = encodeBase 4 (k .base) ++ encodeSuffixes 4 (k .suffixes)
+
+-- what naming asks: room for what may be a name
+pub record NamedRoom (s : List ℕ) (at o len : ℕ) (b : List ℕ) : Type 0 where
+  pub inside : at ≤ length s
+  pub small : length s ≤ 4096
+  pub room : o + 14 + len + (length s - at) ≤ length b
+  pub short : length b ≤ 65536
+
+-- and what it does, where the record of a kind that admits data locations stands at o + 14
+pub record NamedPut (s : List ℕ) (at : ℕ) (sort : Sort) (o len : ℕ) (b b₁ : List ℕ) (r : Read) : Type 0 where
+  pub next : ℕ
+  pub name : ℕ
+  pub is : r ≡ Got next (14 + name + len)
+  pub inside : next ≤ length s
+  pub low : at + name ≤ next
+  pub same : (k : FieldKind) → canSpecifyLocation (k .base) (k .suffixes) ≡ true → length (kindBytes k) ≡ len → r ≡ toRead (onAns (encodeField 4) (behindKind sort k s at))
+  pub wrote : (b₀ : List ℕ) (k : FieldKind) → canSpecifyLocation (k .base) (k .suffixes) ≡ true → length (kindBytes k) ≡ len → Wrote (o + 14) b₀ b (kindBytes k)
+      → Wrote o b₀ b₁ (bytesOf (onAns (encodeField 4) (behindKind sort k s at)))
+
+-- that a record may grow by n bytes, and an answer whose record has
+abbrev pub Short : ℕ → Read → Type 0
+Short n (Got p l) = l + n < 18446744073709551616
+Short n (Bad w p) = Unit {0}
+Short n (Deep p) = Unit {0}
+
+abbrev pub longerBy : ℕ → Read → Read
+longerBy n (Got p l) = Got p (l + n)
+longerBy n (Bad w p) = Bad w p
+longerBy n (Deep p) = Deep p
+
+-- the records of what the readers read
+abbrev pub fieldOf : Sort → ℕ → List ℕ → ℕ → Ans (List ℕ)
+fieldOf sort d s at = onAns (encodeField 4) (fieldBy sort (tupleKind d) s at)
+
+abbrev pub tupleOf : ℕ → List ℕ → ℕ → Ans (List ℕ)
+tupleOf d s p = onAns kindBytes (tupleKind d s p)
+
+abbrev pub listOf : Sort → ℕ → List ℕ → ℕ → Ans (List ℕ)
+listOf sort d s at = onAns (encodeFields 4) (list (fieldBy sort (tupleKind d)) s at)
+
+-- the rest of a list, at most k commas, where the next field is read from `from` and the list closes at `end` if that fails
+abbrev pub restOf : Sort → ℕ → List ℕ → ℕ → ℕ → ℕ → Ans (List ℕ)
+restOf sort d s k from end = let F = fieldBy sort (tupleKind d) in onAns (encodeFields 4) (follow (rest F k s) s end (F s from))
+
+-- a field stands there whose record u is written, and the list goes on
+pub record IsMore (s : List ℕ) (sort : Sort) (d from end o : ℕ) (b₀ b : List ℕ) (f c l : ℕ) : Type 0 where
+  pub u : List ℕ
+  pub size : l ≡ length u
+  pub step : (k : ℕ) → restOf sort d s (suc k) from end ≡ onAns (λ v. u ++ v) (restOf sort d s k f c)
+  pub wrote : Wrote o b₀ b u
+  pub past : from < c
+  pub low : c < f
+  pub inside : f ≤ length s
+  pub paid : l + 10 * from ≤ 10 * c
+
+-- the rest of the list is r, and its records are written
+pub record IsLast (s : List ℕ) (sort : Sort) (d from end o : ℕ) (b₀ b : List ℕ) (r : Read) : Type 0 where
+  pub a : Ans (List ℕ)
+  pub step : (k : ℕ) → restOf sort d s k from end ≡ a
+  pub put : Put 10 s end o b₀ b a r
+
+abbrev pub ItemIs : List ℕ → Sort → ℕ → ℕ → ℕ → ℕ → List ℕ → List ℕ → Item → Type 0
+ItemIs s sort d from end o b₀ b (item.More f c l) = IsMore s sort d from end o b₀ b f c l
+ItemIs s sort d from end o b₀ b (item.Last r) = IsLast s sort d from end o b₀ b r

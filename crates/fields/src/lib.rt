@@ -9,7 +9,7 @@ ghost use mathlib.Core.Path.{_≡_};
 ghost use Prim.Native.Nat.{_+_, _≤_, _<_};
 ghost use lib.ListN.{length};
 ghost use Rattle.fields.specs.Words.{WordIs, Looked, markOf, locationOf, nameAt, NamedIs};
-ghost use Rattle.fields.specs.Scratch.{Closes, BracketIs, InsideIs, Room, Grows, locatedBy, leafOf, Put};
+ghost use Rattle.fields.specs.Scratch.{Closes, BracketIs, InsideIs, Room, Grows, locatedBy, leafOf, Put, NamedRoom, NamedPut, Short, longerBy, fieldOf, tupleOf, listOf, ItemIs};
 
 // A part of the text, by its places.
 pub struct Spot {
@@ -269,5 +269,146 @@ pub fn leaf(s: &[u8], p: usize, sort: Sort, out: &mut [u8], o: usize) -> Read
             }
         }
         RunKind::Refused(w) => Read::Bad { refusal: w, at: p },
+    }
+}
+
+// The mark and the name at `at`, put in before the record of a tuple and its suffixes, of len bytes, that stands at o + 14.
+fn name_tuple(s: &[u8], at: usize, sort: Sort, out: &mut [u8], o: usize, len: usize) -> Read
+    requires { ⌜ NamedRoom (now s) at o len (now out) ⌝ }
+    ensures { λ r. ⌜ NamedPut (now (s .entry)) at sort o len (now (out .entry)) (now (out .exit)) r ⌝ }
+{
+    let v = mark_name(s, at, sort, true);
+    let a = v.from;
+    let e = v.to;
+    let m = e - a;
+    layout::insert(out, o + 14, o + 14 + len, &s[a..e]);
+    layout::front(out, o, v.mark, m, len);
+    Read::Got {
+        next: v.next,
+        len: 14 + m + len,
+    }
+}
+
+// An answer whose record is n bytes longer.
+fn longer(n: usize, r: Read) -> Read
+    requires { ⌜ Short n r ⌝ }
+    ensures { λ a. ⌜ a ≡ longerBy n r ⌝ }
+{
+    match r {
+        Read::Got { next, len } => Read::Got { next, len: len + n },
+        Read::Bad { refusal: _, at: _ } => r,
+        Read::Deep { at: _ } => r,
+    }
+}
+
+// A field with a `,` behind it: where the next field is read, and where the list closes if that fails; or the end of a list, whatever that is.
+pub enum Item {
+    More {
+        field: usize,
+        close: usize,
+        len: usize,
+    },
+    Last {
+        r: Read,
+    },
+}
+
+// A field of a list of a sort, in which d tuples may open.
+pub fn field(s: &[u8], at: usize, sort: Sort, d: usize, out: &mut [u8], o: usize) -> Read
+    requires { ⌜ Room 0 d (now s) at o (now out) ⌝ }
+    ensures { λ r. ⌜ Put 0 (now (s .entry)) at o (now (out .entry)) (now (out .exit)) (fieldOf sort d (now (s .entry)) at) r ⌝ }
+{
+    let v = look(s, at);
+    if v.byte == 40 {
+        let r = tuple(s, v.at, d, out, o + 14);
+        return match r {
+            Read::Got { next, len } => name_tuple(s, next, sort, out, o, len),
+            Read::Bad { refusal: _, at: _ } => r,
+            Read::Deep { at: _ } => r,
+        };
+    }
+    leaf(s, v.at, sort, out, o)
+}
+
+// A tuple kind from its `(`, with its suffixes, where d tuples may open, itself counted.
+pub fn tuple(s: &[u8], p: usize, d: usize, out: &mut [u8], o: usize) -> Read
+    requires { ⌜ Room 14 d (now s) p o (now out) × (p < length (now s)) ⌝ }
+    ensures { λ r. ⌜ Put 14 (now (s .entry)) p o (now (out .entry)) (now (out .exit)) (tupleOf d (now (s .entry)) p) r ⌝ }
+{
+    if d == 0 {
+        return Read::Deep { at: p };
+    }
+    let r = list(s, p + 1, Sort::Plain, d - 1, out, o + 6);
+    match r {
+        Read::Got { next, len } => {
+            layout::header(out, o, 6 + len, 9);
+            let g = suffixes(s, next, out, o + 6 + len);
+            Read::Got {
+                next: g.next,
+                len: 6 + len + g.len,
+            }
+        }
+        Read::Bad { refusal: _, at: _ } => r,
+        Read::Deep { at: _ } => r,
+    }
+}
+
+// The fields of a list of a sort behind its `(`, up to its `)`, where d tuples may open.
+pub fn list(s: &[u8], at: usize, sort: Sort, d: usize, out: &mut [u8], o: usize) -> Read
+    requires { ⌜ Room 0 d (now s) at o (now out) ⌝ }
+    ensures { λ r. ⌜ Put 10 (now (s .entry)) at o (now (out .entry)) (now (out .exit)) (listOf sort d (now (s .entry)) at) r ⌝ }
+{
+    let mut from = at;
+    let mut end = at;
+    let mut len: usize = 0;
+    loop {
+        let i = step(s, from, end, sort, d, out, o + len);
+        match i {
+            Item::More {
+                field: f,
+                close: c,
+                len: l,
+            } => {
+                from = f;
+                end = c;
+                len += l;
+            }
+            Item::Last { r } => {
+                return longer(len, r);
+            }
+        }
+    }
+}
+
+// A field of a list and what follows it; where it fails, the list closes at `end`.
+pub fn step(
+    s: &[u8],
+    from: usize,
+    end: usize,
+    sort: Sort,
+    d: usize,
+    out: &mut [u8],
+    o: usize,
+) -> Item
+    requires { ⌜ Room 0 d (now s) from o (now out) × (end ≤ from) ⌝ }
+    ensures { λ i. ⌜ ItemIs (now (s .entry)) sort d from end o (now (out .entry)) (now (out .exit)) i ⌝ }
+{
+    let f = field(s, from, sort, d, out, o);
+    match f {
+        Read::Got { next, len } => {
+            let v = look(s, next);
+            if v.byte == 44 {
+                return Item::More {
+                    field: v.at + 1,
+                    close: next,
+                    len,
+                };
+            }
+            Item::Last {
+                r: longer(len, close(s, next)),
+            }
+        }
+        Read::Bad { refusal: _, at: _ } => Item::Last { r: close(s, end) },
+        Read::Deep { at: _ } => Item::Last { r: f },
     }
 }
