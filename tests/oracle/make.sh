@@ -2,10 +2,11 @@
 # Makes answers.txt: the texts of texts.py, each with the Rust original's answer.
 # Usage: ./make.sh           writes answers.txt and prints how many answers of each sort
 #        ./make.sh --check   compares instead of writing; exit status 1 if different
+# The list stands in crates/replay, whose program reads it; answers.txt is a link to it.
 # SOURCE and OUT are those of build.sh. Exit status 3: the Rust source is not at hand.
 set -eu
 HERE=$(cd "$(dirname "$0")" && pwd)
-ANSWERS="$HERE/answers.txt"
+ANSWERS="$HERE/../../crates/replay/stdin"
 
 # A line of the list is the text's line, a space and the oracle's line.
 make_answers() {

@@ -47,15 +47,15 @@ module _ (s : List ℕ) (at p b c : ℕ) (v : Looked s at p b) where
   look-missing n = rw (look, unseen n)
 
 module _ (s : List ℕ) (at p b : ℕ) (v : Looked s at p b) where
-  take-got : (c : ℕ) (w : Refusal) → b ≡ c → takeChar c w s at ≡ got tt (p + 1)
+  pub take-got : (c : ℕ) (w : Refusal) → b ≡ c → takeChar c w s at ≡ got tt (p + 1)
   unfolding takeChar
   take-got c w e = rw (takeChar, look-found s at p b c v e)
 
-  take-eos : (c : ℕ) (w : Refusal) → (b ≡ c → ⊥) → b ≡ 256 → takeChar c w s at ≡ bad Eos p
+  pub take-eos : (c : ℕ) (w : Refusal) → (b ≡ c → ⊥) → b ≡ 256 → takeChar c w s at ≡ bad Eos p
   unfolding takeChar
   take-eos c w n e = rw (takeChar, look-missing s at p b c v n, whyNot, seen s at p b 256 v e, ← v .place)
 
-  take-bad : (c : ℕ) (w : Refusal) → (b ≡ c → ⊥) → (b ≡ 256 → ⊥) → takeChar c w s at ≡ bad w p
+  pub take-bad : (c : ℕ) (w : Refusal) → (b ≡ c → ⊥) → (b ≡ 256 → ⊥) → takeChar c w s at ≡ bad w p
   unfolding takeChar
   take-bad c w n m = rw (takeChar, look-missing s at p b c v n, whyNot, unseen s at p b 256 v m, ← v .place)
 

@@ -31,44 +31,44 @@ use Rattle.fields.specs.Scratch.{toRead, bytesOf, Within, Closes, Room, 
 use Rattle.fields.proofs.Ends.{seen, unseen, look-found, look-missing}
 
 -- an answer, by what the code has of it
-is-got : (a : Ans (List ℕ)) (n l : ℕ) → Got n l ≡ toRead a → (a ≡ got (bytesOf a) n) × (l ≡ length (bytesOf a))
+pub is-got : (a : Ans (List ℕ)) (n l : ℕ) → Got n l ≡ toRead a → (a ≡ got (bytesOf a) n) × (l ≡ length (bytesOf a))
 unfolding toRead bytesOf
 is-got (got u m) n l e = (cc, cc)
 is-got (bad w m) n l e = let z : _≡_ {A = ℕ} 0 1 = cc in absurd (omega arith)
 is-got (deep m) n l e = let z : _≡_ {A = ℕ} 0 1 = cc in absurd (omega arith)
 
-is-bad : (a : Ans (List ℕ)) (w : Refusal) (p : ℕ) → Bad w p ≡ toRead a → a ≡ bad w p
+pub is-bad : (a : Ans (List ℕ)) (w : Refusal) (p : ℕ) → Bad w p ≡ toRead a → a ≡ bad w p
 unfolding toRead
 is-bad (got u m) w p e = let z : _≡_ {A = ℕ} 0 1 = cc in absurd (omega arith)
 is-bad (bad x m) w p e = cc
 is-bad (deep m) w p e = let z : _≡_ {A = ℕ} 0 1 = cc in absurd (omega arith)
 
-is-deep : (a : Ans (List ℕ)) (p : ℕ) → Deep p ≡ toRead a → a ≡ deep p
+pub is-deep : (a : Ans (List ℕ)) (p : ℕ) → Deep p ≡ toRead a → a ≡ deep p
 unfolding toRead
 is-deep (got u m) p e = let z : _≡_ {A = ℕ} 0 1 = cc in absurd (omega arith)
 is-deep (bad x m) p e = let z : _≡_ {A = ℕ} 0 1 = cc in absurd (omega arith)
 is-deep (deep m) p e = cc
 
 -- and what was read, of which it has the bytes
-record Behind {A : Type 0} (f : A → List ℕ) (a : Ans A) (u : List ℕ) (n : ℕ) : Type 0 where
-  what : A
-  same : a ≡ got what n
-  bytes : f what ≡ u
+pub record Behind {A : Type 0} (f : A → List ℕ) (a : Ans A) (u : List ℕ) (n : ℕ) : Type 0 where
+  pub what : A
+  pub same : a ≡ got what n
+  pub bytes : f what ≡ u
 
 module _ {A : Type 0} (f : A → List ℕ) where
-  of-got : (a : Ans A) (u : List ℕ) (n : ℕ) → onAns f a ≡ got u n → Behind f a u n
+  pub of-got : (a : Ans A) (u : List ℕ) (n : ℕ) → onAns f a ≡ got u n → Behind f a u n
   unfolding onAns
   of-got (got x m) u n e = record { what = x; same = cc; bytes = cc }
   of-got (bad w m) u n e = let z : _≡_ {A = ℕ} 0 1 = cc in absurd (omega arith)
   of-got (deep m) u n e = let z : _≡_ {A = ℕ} 0 1 = cc in absurd (omega arith)
 
-  of-bad : (a : Ans A) (w : Refusal) (p : ℕ) → onAns f a ≡ bad w p → a ≡ bad w p
+  pub of-bad : (a : Ans A) (w : Refusal) (p : ℕ) → onAns f a ≡ bad w p → a ≡ bad w p
   unfolding onAns
   of-bad (got x m) w p e = let z : _≡_ {A = ℕ} 0 1 = cc in absurd (omega arith)
   of-bad (bad v m) w p e = cc
   of-bad (deep m) w p e = let z : _≡_ {A = ℕ} 0 1 = cc in absurd (omega arith)
 
-  of-deep : (a : Ans A) (p : ℕ) → onAns f a ≡ deep p → a ≡ deep p
+  pub of-deep : (a : Ans A) (p : ℕ) → onAns f a ≡ deep p → a ≡ deep p
   unfolding onAns
   of-deep (got x m) p e = let z : _≡_ {A = ℕ} 0 1 = cc in absurd (omega arith)
   of-deep (bad v m) p e = let z : _≡_ {A = ℕ} 0 1 = cc in absurd (omega arith)

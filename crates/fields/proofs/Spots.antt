@@ -91,15 +91,15 @@ unfolding nameAt
 name-some a e at m n = rw (nameAt, ne-eqb a e n)
 
 -- a mark is no 256
-abbrev Small : Option ℕ → Type 0
+abbrev pub Small : Option ℕ → Type 0
 Small none = Unit {0}
 Small (some m) = m < 256
 
-abbrev AllSmall : List (Entry ℕ) → Type 0
+abbrev pub AllSmall : List (Entry ℕ) → Type 0
 AllSmall [] = Unit {0}
 AllSmall (entry v m ∷ es) = (m < 256) × AllSmall es
 
-lookup-small : (es : List (Entry ℕ)) → AllSmall es → (w : List ℕ) → Small (lookup es w)
+pub lookup-small : (es : List (Entry ℕ)) → AllSmall es → (w : List ℕ) → Small (lookup es w)
 lookup-small [] h w = tt
 lookup-small (entry v m ∷ es) h w = go (same v w) (lookup-small es (h .1) w)
   where
@@ -121,6 +121,19 @@ present : (o : Option ℕ) (m : ℕ) → m ≡ orNone o → (m ≡ 256 → ⊥) 
 present none m e n = absurd (n e)
 present (some x) m e n = ap some (sym e)
 
+-- a word of a table, or none
+module _ (s : List ℕ) (at a e m : ℕ) (i : WordIs s at a e) (es : List (Entry ℕ)) (d : ℕ) (q : m ≡ orNone (lookup es (take (e - a) (drop a s)))) where
+  number-is : m ≡ orNone (lookup es (word s at))
+  number-is = q ∙ ap (λ (w : List ℕ). orNone (lookup es w)) (i .bytes)
+
+  pub option-none : Small (lookup es (word s at)) → m ≡ 256 → option es d s at ≡ got d at
+  unfolding option keywordOf
+  option-none h z = rw (option, keywordOf, absent (lookup es (word s at)) h (sym number-is ∙ z))
+
+  pub option-some : (m ≡ 256 → ⊥) → option es d s at ≡ got m e
+  unfolding option keywordOf
+  option-some n = rw (option, keywordOf, present (lookup es (word s at)) m number-is n, ← i .end)
+
 -- a name behind `at`, with a mark that was read before it
 record NameIs (s : List ℕ) (at m : ℕ) (r : Named) : Type 0 where
   named : optionalName s at ≡ got (take (r .to - r .from) (drop (r .from) s)) (r .next)
@@ -136,21 +149,29 @@ module _ (s : List ℕ) (at a e : ℕ) (i : WordIs s at a e) where
   name-length : length (word s at) ≡ e - a
   name-length = ap length (sym (i .bytes)) ∙ length-take-le (e - a) (drop a s) (rw length-drop (omega (arith, i .inside)))
 
-  named-by : (w : List ℕ) → word s at ≡ w → a ≡ e → optionalName s at ≡ got [] at
-  unfolding optionalName lookIdent
-  named-by [] q z = rw (optionalName, lookIdent, q)
-  named-by (c ∷ w) q z = absurd (omega (arith, ap length q, name-length))
+  no-word : (w : List ℕ) → word s at ≡ w → a ≡ e → lookIdent s at ≡ missing
+  unfolding lookIdent
+  no-word [] q z = rw (lookIdent, q)
+  no-word (c ∷ w) q z = absurd (omega (arith, ap length q, name-length))
+
+  pub no-ident : a ≡ e → lookIdent s at ≡ missing
+  no-ident z = no-word (word s at) refl z
+
+  a-word : (w : List ℕ) → word s at ≡ w → (a ≡ e → ⊥) → lookIdent s at ≡ found w e
+  unfolding lookIdent
+  a-word [] q z = absurd (z (omega (arith, ap length q, name-length, i .order)))
+  a-word (c ∷ w) q z = rw (lookIdent, q, ← i .end)
+
+  pub is-ident : (a ≡ e → ⊥) → lookIdent s at ≡ found (take (e - a) (drop a s)) e
+  is-ident z = a-word (word s at) refl z ∙ ap (λ (w : List ℕ). found w e) (sym (i .bytes))
 
   unnamed : a ≡ e → optionalName s at ≡ got [] at
-  unnamed z = named-by (word s at) refl z
-
-  is-named : (w : List ℕ) → word s at ≡ w → (a ≡ e → ⊥) → optionalName s at ≡ got w e
-  unfolding optionalName lookIdent
-  is-named [] q z = absurd (z (omega (arith, ap length q, name-length, i .order)))
-  is-named (c ∷ w) q z = rw (optionalName, lookIdent, q, ← i .end)
+  unfolding optionalName
+  unnamed z = rw (optionalName, no-ident z)
 
   name-is : (a ≡ e → ⊥) → optionalName s at ≡ got (take (e - a) (drop a s)) e
-  name-is z = is-named (word s at) refl z ∙ ap (λ (w : List ℕ). got w e) (sym (i .bytes))
+  unfolding optionalName
+  name-is z = rw (optionalName, is-ident z)
 
   name-from : (m : ℕ) (r : Named) → at ≤ length s → r ≡ nameAt a e at m → NameIs s at m r
   name-from m r h q = elim (ℕ-discrete a e) [ yes z ↦ empty z | no n ↦ full n ]
@@ -168,17 +189,13 @@ module _ (s : List ℕ) (at a e : ℕ) (i : WordIs s at a e) where
 
 -- a mark and a name
 module _ (s : List ℕ) (at : ℕ) (sort : Sort) (l : Bool) (a e m : ℕ) (h : at ≤ length s) (i : WordIs s at a e) (q : m ≡ markOf sort l (take (e - a) (drop a s))) where
-  mark-is : m ≡ orNone (lookup (marksBy sort l) (word s at))
-  unfolding markOf
-  mark-is = q ∙ ap (λ (w : List ℕ). orNone (lookup (marksBy sort l) w)) (i .bytes)
-
   unmarked-by : m ≡ 256 → option (marksBy sort l) unmarked s at ≡ got unmarked at
-  unfolding option keywordOf
-  unmarked-by z = rw (option, keywordOf, absent (lookup (marksBy sort l) (word s at)) (marks-small sort l (word s at)) (sym mark-is ∙ z))
+  unfolding markOf
+  unmarked-by z = option-none s at a e m i (marksBy sort l) unmarked q (marks-small sort l (word s at)) z
 
   marked-by : (m ≡ 256 → ⊥) → option (marksBy sort l) unmarked s at ≡ got m e
-  unfolding option keywordOf
-  marked-by n = rw (option, keywordOf, present (lookup (marksBy sort l) (word s at)) m mark-is n, ← i .end)
+  unfolding markOf
+  marked-by n = option-some s at a e m i (marksBy sort l) unmarked q n
 
   pub named-unmarked : (r : Named) → m ≡ 256 → r ≡ nameAt a e at 0 → NamedIs s at sort l (r .mark) (r .from) (r .to) (r .next)
   named-unmarked r z f =

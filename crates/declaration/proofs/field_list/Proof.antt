@@ -1,0 +1,104 @@
+use Rattle.declaration.proofs.Parts.{parts}
+use borrow.Author.Needs.{needs}
+use Rattle.declaration.proofs.field_list.Statement.{statement}
+use Rattle.declaration.proofs.field_list.Tie as tie
+use Rattle.declaration.proofs.field_list.Reads as reads
+use Rattle.declaration.proofs.field_list.Lts as lts
+use Rattle.fields.proofs.list.Reads as list-reads
+use Rattle.fields.proofs.look.Reads as look-reads
+use Rattle.layout.proofs.header.Reads as header-reads
+
+-- src/lib.rt:74:9
+look-requires : tie.Need-look-requires
+look-requires c κs = search needs
+
+-- src/lib.rt:76:33
+add-list : tie.Need-add-list
+add-list c = search needs
+
+-- src/lib.rt:76:58
+add-list-2 : tie.Need-add-list-2
+add-list-2 c = search needs
+
+-- src/lib.rt:76:13
+list-requires : tie.Need-list-requires
+list-requires c κs = search needs
+
+-- src/lib.rt:78:25
+enum-known-r : tie.Need-enum-known-r
+enum-known-r c = search needs
+
+-- src/lib.rt:79:40
+add-header : tie.Need-add-header
+add-header c = let w = rw (c .before .before .r .given .1) at (c .before .before .before .before .before .before .list .ensures .within) in search needs
+
+-- src/lib.rt:79:17
+header-requires : tie.Need-header-requires
+header-requires c κs = search needs
+
+-- src/lib.rt:80:40
+add-t19 : tie.Need-add-t19
+add-t19 c = let w = rw (c .before .before .before .before .before .r .given .1) at (c .before .before .before .before .before .before .before .before .before .list .ensures .within) in search needs
+
+-- src/lib.rt:82:48
+enum-told : tie.Need-enum-told
+enum-told c = search needs
+
+-- src/lib.rt:83:37
+enum-told-2 : tie.Need-enum-told-2
+enum-told-2 c = search needs
+
+-- src/lib.rt:77:9
+same-length : tie.Need-same-length
+same-length c = search needs
+
+-- src/lib.rt:77:9
+returns : tie.Need-returns
+returns c = search (needs, parts)
+
+-- src/lib.rt:77:9
+same-length-2 : tie.Need-same-length-2
+same-length-2 c = search needs
+
+-- src/lib.rt:77:9
+returns-2 : tie.Need-returns-2
+returns-2 c = search (needs, parts)
+
+-- src/lib.rt:77:9
+same-length-3 : tie.Need-same-length-3
+same-length-3 c = search needs
+
+-- src/lib.rt:77:9
+returns-3 : tie.Need-returns-3
+returns-3 c = search (needs, parts)
+
+-- src/lib.rt:87:9
+returns-4 : tie.Need-returns-4
+returns-4 c = search (needs, parts)
+
+-- src/lib.rt:70:1
+returns-5 : tie.Need-returns-5
+returns-5 c = search (needs, parts)
+
+pub field-list-spec : {M : Type 1} → statement M
+field-list-spec =
+    tie.close
+    (tie.spec
+    look-requires
+    add-list
+    add-list-2
+    list-requires
+    enum-known-r
+    add-header
+    header-requires
+    add-t19
+    enum-told
+    enum-told-2
+    same-length
+    returns
+    same-length-2
+    returns-2
+    same-length-3
+    returns-3
+    returns-4
+    returns-5)

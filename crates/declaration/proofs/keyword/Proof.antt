@@ -1,0 +1,48 @@
+use Rattle.declaration.proofs.Parts.{parts}
+use borrow.Author.Needs.{needs}
+use Rattle.declaration.proofs.keyword.Statement.{statement}
+use Rattle.declaration.proofs.keyword.Tie as tie
+use Rattle.declaration.proofs.keyword.Reads as reads
+use Rattle.declaration.proofs.keyword.Lts as lts
+use Rattle.declaration.proofs.is_keyword.Reads as is-keyword-reads
+use Rattle.fields.proofs.word.Reads as word-reads
+
+-- src/lib.rt:34:9
+word-requires : tie.Need-word-requires
+word-requires c κs = search needs
+
+-- src/lib.rt:37:22
+sub-is-keyword : tie.Need-sub-is-keyword
+sub-is-keyword c = search needs
+
+-- src/lib.rt:37:22
+part-is-keyword-start : tie.Need-part-is-keyword-start
+part-is-keyword-start c = search needs
+
+-- src/lib.rt:37:22
+part-is-keyword-end : tie.Need-part-is-keyword-end
+part-is-keyword-end c = search needs
+
+-- src/lib.rt:37:8
+is-keyword-requires : tie.Need-is-keyword-requires
+is-keyword-requires c κs = search needs
+
+-- src/lib.rt:38:9
+returns : tie.Need-returns
+returns c = search (needs, parts)
+
+-- src/lib.rt:31:1
+returns-2 : tie.Need-returns-2
+returns-2 c = search (needs, parts)
+
+pub keyword-spec : {M : Type 1} → statement M
+keyword-spec =
+    tie.close
+    (tie.spec
+    word-requires
+    sub-is-keyword
+    part-is-keyword-start
+    part-is-keyword-end
+    is-keyword-requires
+    returns
+    returns-2)

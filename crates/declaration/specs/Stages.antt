@@ -1,0 +1,124 @@
+-- What each stage of reading a declaration answers and leaves, by the definitions: the four keywords differ only in the stages that they have.
+-- Assumes nothing.
+use mathlib.Core.Path.{_≡_}
+use mathlib.Core.List.{List, [], _∷_, _++_}
+use Prim.Native.Nat.{ℕ, _+_, _*_, _≤_}
+use lib.ListN.{length}
+use Rattle.kinds.specs.Bytes.{ascii}
+use Rattle.model.specs.declared.Keyword.{Keyword}
+use Rattle.model.specs.declared.Keyword.the-variants as key
+use Rattle.model.specs.declared.Sort.{Sort}
+use Rattle.model.specs.declared.Sort.the-variants.{Plain, Parameter, Event}
+use Rattle.model.specs.Tree.{notStated, isPayable}
+use Rattle.model.specs.KindText.{Entry, entry, lookup}
+use Rattle.model.specs.Parser.{Ans, got, onAns, then, ident, keyword, option, end}
+use Rattle.model.specs.Reading.{fields, returns, mutabilities, keywordText}
+use Rattle.model.specs.Layout.{littleEndian, recordOf}
+use Rattle.model.specs.Record.{encodeName, encodeList}
+use Rattle.layout.specs.Buffer.{head, Wrote}
+use Rattle.fields.specs.declared.Read.{Read}
+use Rattle.fields.specs.declared.Read.the-variants.{Got, Bad, Deep}
+use Rattle.fields.specs.Words.{orNone}
+use Rattle.fields.specs.Scratch.{toRead, bytesOf}
+
+-- where an answer lies, and that its record takes at most 10 bytes for each byte read, and x more
+abbrev pub Paid : ℕ → List ℕ → ℕ → Read → Type 0
+Paid x s at (Got n l) = (at ≤ n) × (n ≤ length s) × (l + 10 * at ≤ 10 * n + x)
+Paid x s at (Bad w p) = Unit {0}
+Paid x s at (Deep p) = Unit {0}
+
+-- a stage that writes at o what a tells
+pub record Did (x : ℕ) (s : List ℕ) (at o : ℕ) (b₀ b : List ℕ) (a : Ans (List ℕ)) (r : Read) : Type 0 where
+  pub same : r ≡ toRead a
+  pub within : Paid x s at r
+  pub wrote : Wrote o b₀ b (bytesOf a)
+
+-- and one that writes nothing
+abbrev pub Behind : List ℕ → ℕ → Read → Type 0
+Behind s at (Got n l) = (at ≤ n) × (n ≤ length s)
+Behind s at (Bad w p) = Unit {0}
+Behind s at (Deep p) = Unit {0}
+
+pub record Took (s : List ℕ) (at : ℕ) (a : Ans (List ℕ)) (r : Read) : Type 0 where
+  pub same : r ≡ toRead a
+  pub within : Behind s at r
+
+-- the stages
+unfoldable pub keywordIs : Keyword → List ℕ → Ans (List ℕ)
+keywordIs k s = onAns (λ _. []) (keyword (keywordText k) s 0)
+
+unfoldable pub identOf : List ℕ → ℕ → Ans (List ℕ)
+identOf s at = onAns (encodeName 4) (ident s at)
+
+unfoldable pub listIn : Sort → List ℕ → ℕ → Ans (List ℕ)
+listIn sort s at = onAns (encodeList 4) (fields sort s at)
+
+unfoldable pub returnsOf : List ℕ → ℕ → Ans (List ℕ)
+returnsOf s at = onAns (encodeList 4) (returns s at)
+
+-- "fields of an event's own list", of an error's, and of the others'
+unfoldable pub sortOf : Keyword → Sort
+sortOf key.Function = Parameter
+sortOf key.Constructor = Parameter
+sortOf key.Event = Event
+sortOf key.Error = Plain
+
+-- a constructor has no name
+unfoldable pub nameOf : Keyword → List ℕ → ℕ → Ans (List ℕ)
+nameOf key.Function s at = identOf s at
+nameOf key.Constructor s at = got [] at
+nameOf key.Event s at = identOf s at
+nameOf key.Error s at = identOf s at
+
+unfoldable pub inputsOf : Keyword → List ℕ → ℕ → Ans (List ℕ)
+inputsOf k s at = listIn (sortOf k) s at
+
+-- the word behind the inputs, and what stands for none
+unfoldable pub wordsOf : Keyword → List (Entry ℕ)
+wordsOf key.Function = mutabilities
+wordsOf key.Constructor = entry (ascii "payable") isPayable ∷ []
+wordsOf key.Event = entry (ascii "anonymous") 1 ∷ []
+wordsOf key.Error = []
+
+unfoldable pub absent : Keyword → ℕ
+absent key.Function = notStated
+absent key.Constructor = notStated
+absent key.Event = 0
+absent key.Error = 0
+
+unfoldable pub statedBy : Keyword → List ℕ → ℕ
+statedBy k w = orNone (lookup (wordsOf k) w)
+
+pub record StatedIs (s : List ℕ) (at : ℕ) (k : Keyword) (m n : ℕ) : Type 0 where
+  pub same : option (wordsOf k) (absent k) s at ≡ got m n
+  pub low : at ≤ n
+  pub inside : n ≤ length s
+
+-- only a function has outputs
+unfoldable pub outputsOf : Keyword → List ℕ → ℕ → Ans (List ℕ)
+outputsOf key.Function s at = returnsOf s at
+outputsOf key.Constructor s at = got [] at
+outputsOf key.Event s at = got [] at
+outputsOf key.Error s at = got [] at
+
+-- the front of a record: its head and, but for an error, a number in two bytes
+unfoldable pub codeOf : Keyword → ℕ
+codeOf key.Function = 0x20
+codeOf key.Constructor = 0x21
+codeOf key.Event = 0x22
+codeOf key.Error = 0x23
+
+unfoldable pub numberOf : Keyword → ℕ → List ℕ
+numberOf key.Function m = littleEndian 2 m
+numberOf key.Constructor m = littleEndian 2 m
+numberOf key.Event m = littleEndian 2 m
+numberOf key.Error m = []
+
+unfoldable pub frontLength : Keyword → ℕ
+frontLength key.Function = 8
+frontLength key.Constructor = 8
+frontLength key.Event = 8
+frontLength key.Error = 6
+
+unfoldable pub frontOf : Keyword → ℕ → ℕ → List ℕ
+frontOf k n m = head n (codeOf k) ++ numberOf k m

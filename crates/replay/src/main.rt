@@ -1,0 +1,411 @@
+// Replays the Rust original's answers through the calls. Standard input is the fixed list that tests/oracle/README.md describes. Prints the first
+// rows that differ, and then how many rows of each call agree, differ, or are not replayed yet.
+use libc::STDIN_FILENO;
+use libc::STDOUT_FILENO;
+use model::Answer;
+use model::Refusal;
+use text::Maybe;
+ghost use Prim.Native.Nat.{_+_, _≤_, _<_};
+ghost use lib.ListN.{length};
+
+// The calls of the list by number. Each has three counts, one for each verdict, in a row of 21.
+const GENERAL: usize = 0;
+
+const FUNCTION: usize = 1;
+
+const CONSTRUCTOR: usize = 2;
+
+const EVENT: usize = 3;
+
+const ERROR: usize = 4;
+
+const KIND: usize = 5;
+
+const OTHER: usize = 6;
+
+// Behind those counts: the rows so far, and those of them that differ.
+const ROWS: usize = 21;
+
+const DIFFERING: usize = 22;
+
+// How many of the differing rows are named.
+const NAMED: u64 = 10;
+
+enum Verdict {
+    Agrees,
+    Differs,
+    NotYet,
+}
+
+// Printing.
+
+fn print(bytes: &[u8]) {
+    io::write_all(STDOUT_FILENO, bytes);
+}
+
+fn print_number(n: u64) {
+    io::print_decimal(STDOUT_FILENO, n);
+}
+
+fn print_name(call: usize) {
+    match call {
+        GENERAL => print(b"general"),
+        FUNCTION => print(b"function"),
+        CONSTRUCTOR => print(b"constructor"),
+        EVENT => print(b"event"),
+        ERROR => print(b"error"),
+        KIND => print(b"kind"),
+        _ => print(b"other"),
+    }
+}
+
+fn print_counts(call: usize, counts: &[u64; 23])
+    requires { ⌜ call ≤ 6 ⌝ }
+{
+    print_name(call);
+    print(b": ");
+    print_number(counts[3 * call]);
+    print(b" agree, ");
+    print_number(counts[3 * call + 1]);
+    print(b" differ, ");
+    print_number(counts[3 * call + 2]);
+    print(b" not yet\n");
+}
+
+fn print_summary(counts: &[u64; 23]) {
+    let mut call = GENERAL;
+    while call <= OTHER {
+        print_counts(call, counts);
+        call += 1;
+    }
+}
+
+// What is left where no line ends any more.
+fn print_rest(held: usize) {
+    if held != 0 {
+        print(b"a line has no end, or is longer than the window\n");
+    }
+}
+
+// Counting.
+
+fn count(counts: &mut [u64; 23], i: usize)
+    requires { ⌜ i < 23 ⌝ }
+{
+    counts[i] = std::num::wrapping_add_u64(counts[i], 1);
+}
+
+fn slot(verdict: Verdict) -> usize
+    ensures { λ r. ⌜ r ≤ 2 ⌝ }
+{
+    match verdict {
+        Verdict::Agrees => 0,
+        Verdict::Differs => 1,
+        Verdict::NotYet => 2,
+    }
+}
+
+// Counts a differing row, and names it where few have differed.
+fn count_differing(counts: &mut [u64; 23]) {
+    count(counts, DIFFERING);
+    if counts[DIFFERING] <= NAMED {
+        print(b"row ");
+        print_number(counts[ROWS]);
+        print(b" differs\n");
+    }
+}
+
+fn count_row(counts: &mut [u64; 23], call: usize, verdict: Verdict)
+    requires { ⌜ call ≤ 6 ⌝ }
+{
+    count(counts, ROWS);
+    count(counts, 3 * call + slot(verdict));
+    match verdict {
+        Verdict::Agrees => (),
+        Verdict::Differs => count_differing(counts),
+        Verdict::NotYet => (),
+    }
+}
+
+// Fields and hex.
+
+// The place of a byte from a place on, or the end.
+fn find(byte: u8, s: &[u8], from: usize) -> usize
+    requires { ⌜ from ≤ length (now s) ⌝ }
+    ensures { λ r. ⌜ (from ≤ r) × (r ≤ length (now (s .entry))) ⌝ }
+{
+    let mut i = from;
+    while i < s.len() {
+        if s[i] == byte {
+            return i;
+        }
+        i += 1;
+    }
+    i
+}
+
+// Where the field behind the one at a place begins, or the end.
+fn next_field(row: &[u8], from: usize) -> usize
+    requires { ⌜ from ≤ length (now row) ⌝ }
+    ensures { λ r. ⌜ r ≤ length (now (row .entry)) ⌝ }
+{
+    let end = find(b' ', row, from);
+    if end < row.len() { end + 1 } else { end }
+}
+
+// The field with a number, from 0; empty where there is none.
+fn field<'a>(row: &'a [u8], number: usize) -> &'a [u8] {
+    let mut from = 0;
+    let mut left = number;
+    while 0 < left {
+        from = next_field(row, from);
+        left -= 1;
+    }
+    let end = find(b' ', row, from);
+    &row[from..end]
+}
+
+// The value of a hex digit, and 16 for any other byte.
+fn digit(c: u8) -> u16
+    ensures { λ r. ⌜ r ≤ 16 ⌝ }
+{
+    if c < 48 {
+        return 16;
+    }
+    if c <= 57 {
+        return (c - 48) as u16;
+    }
+    if c < 97 {
+        return 16;
+    }
+    if c <= 102 {
+        return (c - 87) as u16;
+    }
+    16
+}
+
+// The byte of the n-th pair of digits, and 256 where there is none.
+fn pair(hex: &[u8], n: usize) -> u16
+    ensures { λ r. ⌜ r ≤ 256 ⌝ }
+{
+    if n < hex.len() / 2 {
+        let high = digit(hex[2 * n]);
+        let low = digit(hex[2 * n + 1]);
+        if high < 16 {
+            if low < 16 {
+                return high * 16 + low;
+            }
+        }
+    }
+    256
+}
+
+// Writes the bytes of as many pairs as there are, or as there is room for, and answers how many.
+fn decode(hex: &[u8], out: &mut [u8]) -> usize
+    ensures { λ r. ⌜ r ≤ length (now (out .exit)) ⌝ }
+{
+    let mut n = 0;
+    while n < out.len() {
+        let byte = pair(hex, n);
+        if byte == 256 {
+            return n;
+        }
+        out[n] = byte as u8;
+        n += 1;
+    }
+    n
+}
+
+fn wide(byte: u8) -> u16 {
+    byte as u16
+}
+
+// Whether a field says these bytes.
+fn is_hex(hex: &[u8], bytes: &[u8]) -> bool {
+    if bytes.len() == 0 {
+        return text::equal(hex, b"-");
+    }
+    if hex.len() / 2 != bytes.len() || hex.len() % 2 != 0 {
+        return false;
+    }
+    let mut i = 0;
+    while i < bytes.len() {
+        if pair(hex, i) != wide(bytes[i]) {
+            return false;
+        }
+        i += 1;
+    }
+    true
+}
+
+// Whether a field says this number.
+fn is_number(field: &[u8], n: u64) -> bool {
+    let m = text::plain(18446744073709551615, field);
+    match m {
+        Maybe::Value(v) => v == n,
+        Maybe::Absent => false,
+    }
+}
+
+// Rows.
+
+fn call_of(name: &[u8]) -> usize
+    ensures { λ r. ⌜ r ≤ 6 ⌝ }
+{
+    if text::equal(name, b"general") {
+        return GENERAL;
+    }
+    if text::equal(name, b"function") {
+        return FUNCTION;
+    }
+    if text::equal(name, b"constructor") {
+        return CONSTRUCTOR;
+    }
+    if text::equal(name, b"event") {
+        return EVENT;
+    }
+    if text::equal(name, b"error") {
+        return ERROR;
+    }
+    if text::equal(name, b"kind") {
+        return KIND;
+    }
+    OTHER
+}
+
+// Whether the row has this record.
+fn says_record(row: &[u8], length: usize, out: &[u8]) -> bool {
+    if out.len() < length {
+        return false;
+    }
+    text::equal(field(row, 2), b"ok") && is_hex(field(row, 3), &out[..length])
+}
+
+// A row where the Rust panics has a number and a position too.
+fn is_refused(row: &[u8]) -> bool {
+    text::equal(field(row, 2), b"no") || text::equal(field(row, 2), b"panic")
+}
+
+// Whether the row has this number and position.
+fn says_refusal(row: &[u8], refusal: Refusal, position: usize) -> bool {
+    is_refused(row)
+        && is_number(field(row, 3), refusal::number(refusal) as u64)
+        && is_number(field(row, 4), position as u64)
+}
+
+fn says(row: &[u8], answer: Answer, out: &[u8]) -> bool {
+    match answer {
+        Answer::Accepted { length } => says_record(row, length, out),
+        Answer::Refused { refusal, position } => says_refusal(row, refusal, position),
+    }
+}
+
+fn judged(agrees: bool) -> Verdict {
+    if agrees {
+        return Verdict::Agrees;
+    }
+    Verdict::Differs
+}
+
+// What a call answers, beside the row. A call that has no branch here is not replayed yet.
+fn replay_text(call: usize, text: &[u8], row: &[u8], out: &mut [u8]) -> Verdict {
+    if call == KIND {
+        let answer = value::parse_kind(text, out);
+        return judged(says(row, answer, out));
+    }
+    if call == OTHER {
+        return Verdict::Differs;
+    }
+    Verdict::NotYet
+}
+
+// A text that is not decoded whole differs.
+fn replay_row(row: &[u8], text: &mut [u8], out: &mut [u8], counts: &mut [u64; 23]) {
+    let call = call_of(field(row, 0));
+    let n = decode(field(row, 1), text);
+    if is_hex(field(row, 1), &text[..n]) {
+        count_row(counts, call, replay_text(call, &text[..n], row, out));
+    } else {
+        count_row(counts, call, Verdict::Differs);
+    }
+}
+
+// Replays the whole lines of a block, and answers how many bytes they take.
+fn replay_lines(block: &[u8], text: &mut [u8], out: &mut [u8], counts: &mut [u64; 23]) -> usize
+    ensures { λ r. ⌜ r ≤ length (now (block .entry)) ⌝ }
+{
+    let mut at = 0;
+    while at < block.len() {
+        let end = find(b'\n', block, at);
+        if end == block.len() {
+            return at;
+        }
+        replay_row(&block[at..end], text, out, counts);
+        at = end + 1;
+    }
+    at
+}
+
+// Reading.
+
+// Reads on behind the bytes that a window holds, and answers how many it holds then.
+fn refill(window: &mut [u8], held: usize) -> usize
+    requires { ⌜ held ≤ length (now window) ⌝ }
+    ensures { λ r. ⌜ r ≤ length (now (window .exit)) ⌝ }
+{
+    held + io::read_full(STDIN_FILENO, &mut window[held..])
+}
+
+// Moves the bytes from a place up to an end to the front, and answers how many they are.
+fn keep(window: &mut [u8], from: usize, end: usize) -> usize
+    requires { ⌜ (from ≤ end) × (end ≤ length (now window)) ⌝ }
+    ensures { λ r. ⌜ r ≤ length (now (window .exit)) ⌝ }
+{
+    let n = end - from;
+    let mut i = 0;
+    while i < n {
+        window[i] = window[from + i];
+        i += 1;
+    }
+    n
+}
+
+// Replays one window's lines, and answers how many bytes are left over.
+fn replay_window(
+    window: &mut [u8],
+    end: usize,
+    text: &mut [u8],
+    out: &mut [u8],
+    counts: &mut [u64; 23],
+) -> usize
+    requires { ⌜ end ≤ length (now window) ⌝ }
+    ensures { λ r. ⌜ r ≤ length (now (window .exit)) ⌝ }
+{
+    let done = replay_lines(&window[..end], text, out, counts);
+    keep(window, done, end)
+}
+
+// Replays the list to its end. Nothing says that an input ends, so the turns are counted down from a number that none uses up.
+fn replay_list(window: &mut [u8], text: &mut [u8], out: &mut [u8], counts: &mut [u64; 23]) {
+    let mut held = 0;
+    let mut turns = u64::MAX;
+    while 0 < turns {
+        let end = refill(window, held);
+        if end == held {
+            print_rest(held);
+            return;
+        }
+        held = replay_window(window, end, text, out, counts);
+        turns -= 1;
+    }
+}
+
+// The longest row has 95,667 bytes, the longest text 4,096 and the longest record 40,960.
+fn main() {
+    let mut window = [0; 131072];
+    let mut text = [0; 4096];
+    let mut out = [0; 40960];
+    let mut counts = [0; 23];
+    replay_list(&mut window, &mut text, &mut out, &mut counts);
+    print_summary(&counts);
+}
