@@ -70,9 +70,6 @@ nameOf key.Constructor s at = got [] at
 nameOf key.Event s at = identOf s at
 nameOf key.Error s at = identOf s at
 
-unfoldable pub inputsOf : Keyword → List ℕ → ℕ → Ans (List ℕ)
-inputsOf k s at = listIn (sortOf k) s at
-
 -- the word behind the inputs, and what stands for none
 unfoldable pub wordsOf : Keyword → List (Entry ℕ)
 wordsOf key.Function = mutabilities
@@ -122,3 +119,30 @@ frontLength key.Error = 6
 
 unfoldable pub frontOf : Keyword → ℕ → ℕ → List ℕ
 frontOf k n m = head n (codeOf k) ++ numberOf k m
+
+-- the record of a declaration, from its number and the bytes behind it
+unfoldable pub declarationOf : Keyword → ℕ → List ℕ → List ℕ
+declarationOf k m u = recordOf 4 (codeOf k) (numberOf k m ++ u)
+
+-- what follows the inputs, where u are the bytes of the name and the inputs
+unfoldable pub tailOf : Keyword → List ℕ → List ℕ → ℕ → Ans (List ℕ)
+tailOf k u s at =
+    then (option (wordsOf k) (absent k) s at) (λ m n.
+    then (outputsOf k s n) (λ v p.
+    onAns (λ _. declarationOf k m (u ++ v)) (end s p)))
+
+pub record TailIs (s : List ℕ) (at : ℕ) (k : Keyword) (len : ℕ) (b b₁ : List ℕ) (r : Read) : Type 0 where
+  pub same : (u : List ℕ) → frontLength k + length u ≡ len → r ≡ toRead (tailOf k u s at)
+  pub wrote : (b₀ u : List ℕ) → frontLength k + length u ≡ len → Wrote (frontLength k) b₀ b u → Wrote 0 b₀ b₁ (bytesOf (tailOf k u s at))
+
+-- what follows the keyword
+unfoldable pub bodyOf : Keyword → List ℕ → ℕ → Ans (List ℕ)
+bodyOf k s at =
+    then (nameOf k s at) (λ u n.
+    then (listIn (sortOf k) s n) (λ v p.
+    tailOf k (u ++ v) s p))
+
+-- a record that is written from the beginning
+pub record Whole (b₀ b : List ℕ) (a : Ans (List ℕ)) (r : Read) : Type 0 where
+  pub same : r ≡ toRead a
+  pub wrote : Wrote 0 b₀ b (bytesOf a)

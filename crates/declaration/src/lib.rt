@@ -9,11 +9,12 @@ ghost use Prim.Native.Nat.{_+_, _≤_};
 ghost use lib.ListN.{length};
 ghost use Rattle.kinds.specs.Bytes.{same};
 ghost use Rattle.model.specs.Parser.{onAns, end};
-ghost use Rattle.model.specs.Reading.{keywordText};
+ghost use Rattle.model.specs.Reading.{keywordText, exec, parserOf};
+ghost use Rattle.model.specs.Record.{encode};
 ghost use Rattle.fields.specs.Words.{Looked};
 ghost use Rattle.fields.specs.Scratch.{Room};
 ghost use Rattle.layout.specs.Buffer.{put};
-ghost use Rattle.declaration.specs.Stages.{Did, Took, sortOf, statedBy, StatedIs, nameOf, inputsOf, outputsOf, identOf, listIn, returnsOf, keywordIs, frontLength, frontOf};
+ghost use Rattle.declaration.specs.Stages.{Did, Took, sortOf, statedBy, absent, StatedIs, nameOf, outputsOf, identOf, listIn, returnsOf, keywordIs, frontLength, frontOf, TailIs, bodyOf, Whole};
 
 // Whether a word is a keyword.
 fn is_keyword(k: Keyword, w: &[u8]) -> bool
@@ -177,5 +178,162 @@ fn stated_by(k: Keyword, w: &[u8]) -> usize
             256
         }
         Keyword::Error => 256,
+    }
+}
+
+// The word behind the inputs: its number, or the one that stands for none, and the place behind it.
+pub struct Stated {
+    pub number: usize,
+    pub next: usize,
+}
+
+fn option(s: &[u8], at: usize, k: Keyword) -> Stated
+    requires { ⌜ at ≤ length (now s) ⌝ }
+    ensures { λ r. ⌜ StatedIs (now (s .entry)) at k (r .number) (r .next) ⌝ }
+{
+    let w = fields::word(s, at);
+    let a = w.from;
+    let e = w.to;
+    let m = stated_by(k, &s[a..e]);
+    if m == 256 {
+        return Stated {
+            number: absent(k),
+            next: at,
+        };
+    }
+    Stated { number: m, next: e }
+}
+
+fn absent(k: Keyword) -> usize
+    ensures { λ r. ⌜ r ≡ absent k ⌝ }
+{
+    match k {
+        Keyword::Function => 2,
+        Keyword::Constructor => 2,
+        Keyword::Event => 0,
+        Keyword::Error => 0,
+    }
+}
+
+// The name, which a constructor has not.
+fn name(s: &[u8], at: usize, k: Keyword, out: &mut [u8], o: usize) -> Read
+    requires { ⌜ Room 0 32 (now s) at o (now out) ⌝ }
+    ensures { λ r. ⌜ Did 0 (now (s .entry)) at o (now (out .entry)) (now (out .exit)) (nameOf k (now (s .entry)) at) r ⌝ }
+{
+    match k {
+        Keyword::Function => ident(s, at, out, o),
+        Keyword::Constructor => Read::Got { next: at, len: 0 },
+        Keyword::Event => ident(s, at, out, o),
+        Keyword::Error => ident(s, at, out, o),
+    }
+}
+
+// The outputs, which only a function has.
+fn outputs(s: &[u8], at: usize, k: Keyword, out: &mut [u8], o: usize) -> Read
+    requires { ⌜ Room 0 33 (now s) at o (now out) ⌝ }
+    ensures { λ r. ⌜ Did 6 (now (s .entry)) at o (now (out .entry)) (now (out .exit)) (outputsOf k (now (s .entry)) at) r ⌝ }
+{
+    match k {
+        Keyword::Function => returns(s, at, out, o),
+        Keyword::Constructor => Read::Got { next: at, len: 0 },
+        Keyword::Event => Read::Got { next: at, len: 0 },
+        Keyword::Error => Read::Got { next: at, len: 0 },
+    }
+}
+
+// How long the front of a record is: its head and, but for an error, a number.
+fn front_length(k: Keyword) -> usize
+    ensures { λ r. ⌜ (r ≡ frontLength k) × (r ≤ 8) ⌝ }
+{
+    match k {
+        Keyword::Function => 8,
+        Keyword::Constructor => 8,
+        Keyword::Event => 8,
+        Keyword::Error => 6,
+    }
+}
+
+// The front of a record of n bytes, with the number m.
+fn front(out: &mut [u8], k: Keyword, n: usize, m: usize)
+    requires { ⌜ 8 ≤ length (now out) ⌝ }
+    ensures { λ _. ⌜ now (out .exit) ≡ put 0 (frontOf k n m) (now (out .entry)) ⌝ }
+{
+    match k {
+        Keyword::Function => {
+            layout::header(out, 0, n, 32);
+            layout::put2(out, 6, m);
+        }
+        Keyword::Constructor => {
+            layout::header(out, 0, n, 33);
+            layout::put2(out, 6, m);
+        }
+        Keyword::Event => {
+            layout::header(out, 0, n, 34);
+            layout::put2(out, 6, m);
+        }
+        Keyword::Error => {
+            layout::header(out, 0, n, 35);
+        }
+    }
+}
+
+// What follows the inputs, and the front of the record, of which len bytes are written.
+fn tail(s: &[u8], at: usize, k: Keyword, out: &mut [u8], len: usize) -> Read
+    requires { ⌜ Room 0 34 (now s) at len (now out) ⌝ }
+    ensures { λ r. ⌜ TailIs (now (s .entry)) at k len (now (out .entry)) (now (out .exit)) r ⌝ }
+{
+    let m = option(s, at, k);
+    let r = outputs(s, m.next, k, out, len);
+    match r {
+        Read::Got { next, len: l } => {
+            let e = end(s, next);
+            match e {
+                Read::Got { next: n, len: _ } => {
+                    front(out, k, len + l, m.number);
+                    Read::Got {
+                        next: n,
+                        len: len + l,
+                    }
+                }
+                Read::Bad { refusal: _, at: _ } => e,
+                Read::Deep { at: _ } => e,
+            }
+        }
+        Read::Bad { refusal: _, at: _ } => r,
+        Read::Deep { at: _ } => r,
+    }
+}
+
+// What follows the keyword.
+fn body(s: &[u8], at: usize, k: Keyword, out: &mut [u8]) -> Read
+    requires { ⌜ Room 0 36 (now s) at 0 (now out) ⌝ }
+    ensures { λ r. ⌜ Whole (now (out .entry)) (now (out .exit)) (bodyOf k (now (s .entry)) at) r ⌝ }
+{
+    let o = front_length(k);
+    let a = name(s, at, k, out, o);
+    match a {
+        Read::Got { next: p, len: n } => {
+            let b = field_list(s, p, sort_of(k), out, o + n);
+            match b {
+                Read::Got { next: q, len: i } => tail(s, q, k, out, o + n + i),
+                Read::Bad { refusal: _, at: _ } => b,
+                Read::Deep { at: _ } => b,
+            }
+        }
+        Read::Bad { refusal: _, at: _ } => a,
+        Read::Deep { at: _ } => a,
+    }
+}
+
+// A whole text, whose keyword is k.
+fn exec(s: &[u8], k: Keyword, out: &mut [u8]) -> Read
+    requires { ⌜ Room 0 32 (now s) 0 0 (now out) ⌝ }
+    ensures { λ r. ⌜ Whole (now (out .entry)) (now (out .exit)) (onAns (encode 4) (exec (parserOf k) (now (s .entry)))) r ⌝ }
+{
+    let r = keyword(s, k);
+    match r {
+        Read::Got { next, len: _ } => body(s, next, k, out),
+        Read::Bad { refusal: _, at: _ } => r,
+        Read::Deep { at: _ } => r,
     }
 }
