@@ -1,5 +1,7 @@
 // The five reading calls. A text is read once, into an array of the call's own, and what was read is copied if all of it fits.
 use fields::Read;
+use model::Answer;
+use model::Call;
 use model::Keyword;
 use model::Refusal;
 use model::Sort;
@@ -14,6 +16,9 @@ ghost use Rattle.model.specs.Record.{encode};
 ghost use Rattle.fields.specs.Words.{Looked};
 ghost use Rattle.fields.specs.Scratch.{Room};
 ghost use Rattle.layout.specs.Buffer.{put};
+ghost use Rattle.model.specs.Answer.{said, outcome, after};
+ghost use Rattle.model.specs.Calls.{readOutput};
+ghost use Rattle.declaration.specs.Outputs.{execOutput, AdmittedIs, namedOutput, openedOutput};
 ghost use Rattle.declaration.specs.Stages.{Did, Took, sortOf, statedBy, absent, StatedIs, nameOf, outputsOf, identOf, listIn, returnsOf, keywordIs, frontLength, frontOf, TailIs, bodyOf, Whole};
 
 // Whether a word is a keyword.
@@ -336,4 +341,182 @@ fn exec(s: &[u8], k: Keyword, out: &mut [u8]) -> Read
         Read::Bad { refusal: _, at: _ } => r,
         Read::Deep { at: _ } => r,
     }
+}
+
+fn refused(refusal: Refusal, position: usize) -> Answer
+    ensures { λ r. ⌜ r ≡ Answer.Refused refusal position ⌝ }
+{
+    Answer::Refused { refusal, position }
+}
+
+// Reads into a scratch buffer that has room, and copies the record.
+fn via(text: &[u8], k: Keyword, scratch: &mut [u8], record: &mut [u8]) -> Answer
+    requires { ⌜ Room 0 32 (now text) 0 0 (now scratch) ⌝ }
+    ensures says { λ r. ⌜ said r ≡ outcome (length (now («record» .entry))) (execOutput k (now (text .entry))) ⌝ }
+    ensures left { λ _. ⌜ now («record» .exit) ≡ after (now («record» .entry)) (execOutput k (now (text .entry))) ⌝ }
+{
+    let r = exec(text, k, scratch);
+    match r {
+        Read::Got { next: _, len } => {
+            if record.len() < len {
+                return refused(Refusal::NoRoom, 0);
+            }
+            layout::copy(record, 0, &scratch[..len]);
+            Answer::Accepted { length: len }
+        }
+        Read::Bad { refusal, at } => refused(refusal, at),
+        Read::Deep { at } => refused(Refusal::TooDeep, at),
+    }
+}
+
+// Four sizes of scratch, since an array is filled with zeros at each call: 10 bytes for each byte of text and for each tuple that may be open.
+fn tiny(text: &[u8], k: Keyword, record: &mut [u8]) -> Answer
+    requires { ⌜ length (now text) ≤ 64 ⌝ }
+    ensures says { λ r. ⌜ said r ≡ outcome (length (now («record» .entry))) (execOutput k (now (text .entry))) ⌝ }
+    ensures left { λ _. ⌜ now («record» .exit) ≡ after (now («record» .entry)) (execOutput k (now (text .entry))) ⌝ }
+{
+    let mut scratch = [0u8; 960];
+    via(text, k, &mut scratch, record)
+}
+
+fn small(text: &[u8], k: Keyword, record: &mut [u8]) -> Answer
+    requires { ⌜ length (now text) ≤ 256 ⌝ }
+    ensures says { λ r. ⌜ said r ≡ outcome (length (now («record» .entry))) (execOutput k (now (text .entry))) ⌝ }
+    ensures left { λ _. ⌜ now («record» .exit) ≡ after (now («record» .entry)) (execOutput k (now (text .entry))) ⌝ }
+{
+    let mut scratch = [0u8; 2880];
+    via(text, k, &mut scratch, record)
+}
+
+fn mid(text: &[u8], k: Keyword, record: &mut [u8]) -> Answer
+    requires { ⌜ length (now text) ≤ 1024 ⌝ }
+    ensures says { λ r. ⌜ said r ≡ outcome (length (now («record» .entry))) (execOutput k (now (text .entry))) ⌝ }
+    ensures left { λ _. ⌜ now («record» .exit) ≡ after (now («record» .entry)) (execOutput k (now (text .entry))) ⌝ }
+{
+    let mut scratch = [0u8; 10560];
+    via(text, k, &mut scratch, record)
+}
+
+fn large(text: &[u8], k: Keyword, record: &mut [u8]) -> Answer
+    requires { ⌜ length (now text) ≤ 4096 ⌝ }
+    ensures says { λ r. ⌜ said r ≡ outcome (length (now («record» .entry))) (execOutput k (now (text .entry))) ⌝ }
+    ensures left { λ _. ⌜ now («record» .exit) ≡ after (now («record» .entry)) (execOutput k (now (text .entry))) ⌝ }
+{
+    let mut scratch = [0u8; 41280];
+    via(text, k, &mut scratch, record)
+}
+
+fn by_size(text: &[u8], k: Keyword, record: &mut [u8]) -> Answer
+    requires { ⌜ length (now text) ≤ 4096 ⌝ }
+    ensures says { λ r. ⌜ said r ≡ outcome (length (now («record» .entry))) (execOutput k (now (text .entry))) ⌝ }
+    ensures left { λ _. ⌜ now («record» .exit) ≡ after (now («record» .entry)) (execOutput k (now (text .entry))) ⌝ }
+{
+    if text.len() <= 64 {
+        return tiny(text, k, record);
+    }
+    if text.len() <= 256 {
+        return small(text, k, record);
+    }
+    if text.len() <= 1024 {
+        return mid(text, k, record);
+    }
+    large(text, k, record)
+}
+
+// Whether a text is read at all.
+pub enum Admitted {
+    Whole,
+    Not { refusal: Refusal, at: usize },
+}
+
+fn admit(text: &[u8]) -> Admitted
+    ensures { λ r. ⌜ AdmittedIs (now (text .entry)) r ⌝ }
+{
+    if 4096 < text.len() {
+        return Admitted::Not {
+            refusal: Refusal::TooLong,
+            at: 0,
+        };
+    }
+    let n = text::valid_length(text);
+    if n < text.len() {
+        return Admitted::Not {
+            refusal: Refusal::NotUtf8,
+            at: n,
+        };
+    }
+    Admitted::Whole
+}
+
+// A text whose keyword is wanted, whatever it begins with.
+fn parse(text: &[u8], k: Keyword, record: &mut [u8]) -> Answer
+    ensures says { λ r. ⌜ said r ≡ outcome (length (now («record» .entry))) (namedOutput k (now (text .entry))) ⌝ }
+    ensures left { λ _. ⌜ now («record» .exit) ≡ after (now («record» .entry)) (namedOutput k (now (text .entry))) ⌝ }
+{
+    let a = admit(text);
+    match a {
+        Admitted::Whole => by_size(text, k, record),
+        Admitted::Not { refusal, at } => refused(refusal, at),
+    }
+}
+
+// `FunctionDescriptor::parse_declaration`, and so on: they skip leading blanks.
+pub fn parse_function(text: &[u8], record: &mut [u8]) -> Answer
+    ensures says { λ r. ⌜ said r ≡ outcome (length (now («record» .entry))) (readOutput Call.Function (now (text .entry))) ⌝ }
+    ensures left { λ _. ⌜ now («record» .exit) ≡ after (now («record» .entry)) (readOutput Call.Function (now (text .entry))) ⌝ }
+{
+    parse(text, Keyword::Function, record)
+}
+
+pub fn parse_constructor(text: &[u8], record: &mut [u8]) -> Answer
+    ensures says { λ r. ⌜ said r ≡ outcome (length (now («record» .entry))) (readOutput Call.Constructor (now (text .entry))) ⌝ }
+    ensures left { λ _. ⌜ now («record» .exit) ≡ after (now («record» .entry)) (readOutput Call.Constructor (now (text .entry))) ⌝ }
+{
+    parse(text, Keyword::Constructor, record)
+}
+
+pub fn parse_event(text: &[u8], record: &mut [u8]) -> Answer
+    ensures says { λ r. ⌜ said r ≡ outcome (length (now («record» .entry))) (readOutput Call.Event (now (text .entry))) ⌝ }
+    ensures left { λ _. ⌜ now («record» .exit) ≡ after (now («record» .entry)) (readOutput Call.Event (now (text .entry))) ⌝ }
+{
+    parse(text, Keyword::Event, record)
+}
+
+pub fn parse_error(text: &[u8], record: &mut [u8]) -> Answer
+    ensures says { λ r. ⌜ said r ≡ outcome (length (now («record» .entry))) (readOutput Call.Error (now (text .entry))) ⌝ }
+    ensures left { λ _. ⌜ now («record» .exit) ≡ after (now («record» .entry)) (readOutput Call.Error (now (text .entry))) ⌝ }
+{
+    parse(text, Keyword::Error, record)
+}
+
+// `Descriptor::parse_declaration`: the text starts, unskipped, with one of the four.
+pub fn parse_declaration(text: &[u8], record: &mut [u8]) -> Answer
+    ensures says { λ r. ⌜ said r ≡ outcome (length (now («record» .entry))) (readOutput Call.General (now (text .entry))) ⌝ }
+    ensures left { λ _. ⌜ now («record» .exit) ≡ after (now («record» .entry)) (readOutput Call.General (now (text .entry))) ⌝ }
+{
+    let a = admit(text);
+    match a {
+        Admitted::Whole => opening(text, record),
+        Admitted::Not { refusal, at } => refused(refusal, at),
+    }
+}
+
+fn opening(text: &[u8], record: &mut [u8]) -> Answer
+    requires { ⌜ length (now text) ≤ 4096 ⌝ }
+    ensures says { λ r. ⌜ said r ≡ outcome (length (now («record» .entry))) (openedOutput (now (text .entry))) ⌝ }
+    ensures left { λ _. ⌜ now («record» .exit) ≡ after (now («record» .entry)) (openedOutput (now (text .entry))) ⌝ }
+{
+    if text::begins(b"function", text) {
+        return by_size(text, Keyword::Function, record);
+    }
+    if text::begins(b"constructor", text) {
+        return by_size(text, Keyword::Constructor, record);
+    }
+    if text::begins(b"event", text) {
+        return by_size(text, Keyword::Event, record);
+    }
+    if text::begins(b"error", text) {
+        return by_size(text, Keyword::Error, record);
+    }
+    refused(Refusal::ExpectDeclaration, 0)
 }
