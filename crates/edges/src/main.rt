@@ -10,11 +10,21 @@ const FILL: u8 = 0xA5;
 
 // The calls that are shown.
 enum Call {
+    General,
+    Function,
+    Constructor,
+    Event,
+    Error,
     Kind,
 }
 
 fn ask(call: Call, text: &[u8], out: &mut [u8]) -> Answer {
     match call {
+        Call::General => declaration::parse_declaration(text, out),
+        Call::Function => declaration::parse_function(text, out),
+        Call::Constructor => declaration::parse_constructor(text, out),
+        Call::Event => declaration::parse_event(text, out),
+        Call::Error => declaration::parse_error(text, out),
         Call::Kind => value::parse_kind(text, out),
     }
 }
@@ -28,6 +38,11 @@ fn ask_in(room: usize, call: Call, text: &[u8], out: &mut [u8]) -> Answer
 
 fn print_call(call: Call) {
     match call {
+        Call::General => print(b"general"),
+        Call::Function => print(b"function"),
+        Call::Constructor => print(b"constructor"),
+        Call::Event => print(b"event"),
+        Call::Error => print(b"error"),
         Call::Kind => print(b"kind"),
     }
 }
@@ -189,9 +204,68 @@ fn kind_room() {
     row_in(27, Call::Kind, b"string[]");
 }
 
+// The edges of declarations that the proved table does not have.
+fn declarations() {
+    row(Call::Function, b"");
+    row(Call::Function, b" function f()");
+    row(Call::General, b"functionf()");
+    row(Call::General, b"function f(uint");
+    row(Call::General, b"function f();;");
+    row(Call::General, b"function f() external");
+    row(
+        Call::General,
+        b"error e((((((((((((((((((((((((((((((((()))))))))))))))))))))))))))))))))",
+    );
+    row(
+        Call::General,
+        b"error e(((((((((((((((((((((((((((((((((())))))))))))))))))))))))))))))))))",
+    );
+}
+
+// One of each sort.
+fn sorts() {
+    row(Call::General, b"function f(uint a)");
+    row(Call::Constructor, b"constructor() payable");
+    row(Call::Event, b"event E(uint indexed a) anonymous");
+    row(Call::Error, b"error e(uint[2][] a)");
+}
+
+// "Errors that lie near."
+fn near() {
+    row(Call::General, b"function f((uin) a)");
+    row(Call::General, b"function  ");
+    row(Call::General, b"function f(string memory)");
+}
+
+// The other refusals of the reading calls but 20, and which comes first.
+fn refusals() {
+    let too_long = [b'a'; 4097];
+    let neither = [0xFF; 4097];
+    row(Call::General, b"function f uint");
+    row(Call::General, b"f()");
+    row(Call::Error, b"function f()");
+    row(Call::General, &too_long);
+    row(Call::General, &neither);
+    row(Call::General, b"function f(\xFF");
+    row(Call::General, b"\xFF");
+    row_in(0, Call::General, b"functionf()");
+}
+
+fn room() {
+    row_in(0, Call::General, b"function f()");
+    row_in(26, Call::General, b"function f()");
+    row_in(27, Call::General, b"function f()");
+    row_in(28, Call::General, b"function f()");
+}
+
 fn main() {
     kinds();
     kind_refusals();
     kind_order();
     kind_room();
+    declarations();
+    sorts();
+    near();
+    refusals();
+    room();
 }

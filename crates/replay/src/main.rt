@@ -1,5 +1,5 @@
 // Replays the Rust original's answers through the calls. Standard input is the fixed list that tests/oracle/README.md describes. Prints the first
-// rows that differ, and then how many rows of each call agree, differ, or are not replayed yet.
+// rows that differ, and then how many rows of each call agree and how many differ.
 use libc::STDIN_FILENO;
 use libc::STDOUT_FILENO;
 use model::Answer;
@@ -8,7 +8,7 @@ use text::Maybe;
 ghost use Prim.Native.Nat.{_+_, _≤_, _<_};
 ghost use lib.ListN.{length};
 
-// The calls of the list by number. Each has three counts, one for each verdict, in a row of 21.
+// The calls of the list by number. Each has two counts, one for each verdict, in a row of 14.
 const GENERAL: usize = 0;
 
 const FUNCTION: usize = 1;
@@ -24,9 +24,9 @@ const KIND: usize = 5;
 const OTHER: usize = 6;
 
 // Behind those counts: the rows so far, and those of them that differ.
-const ROWS: usize = 21;
+const ROWS: usize = 14;
 
-const DIFFERING: usize = 22;
+const DIFFERING: usize = 15;
 
 // How many of the differing rows are named.
 const NAMED: u64 = 10;
@@ -34,7 +34,6 @@ const NAMED: u64 = 10;
 enum Verdict {
     Agrees,
     Differs,
-    NotYet,
 }
 
 // Printing.
@@ -59,20 +58,18 @@ fn print_name(call: usize) {
     }
 }
 
-fn print_counts(call: usize, counts: &[u64; 23])
+fn print_counts(call: usize, counts: &[u64; 16])
     requires { ⌜ call ≤ 6 ⌝ }
 {
     print_name(call);
     print(b": ");
-    print_number(counts[3 * call]);
+    print_number(counts[2 * call]);
     print(b" agree, ");
-    print_number(counts[3 * call + 1]);
-    print(b" differ, ");
-    print_number(counts[3 * call + 2]);
-    print(b" not yet\n");
+    print_number(counts[2 * call + 1]);
+    print(b" differ\n");
 }
 
-fn print_summary(counts: &[u64; 23]) {
+fn print_summary(counts: &[u64; 16]) {
     let mut call = GENERAL;
     while call <= OTHER {
         print_counts(call, counts);
@@ -89,24 +86,23 @@ fn print_rest(held: usize) {
 
 // Counting.
 
-fn count(counts: &mut [u64; 23], i: usize)
-    requires { ⌜ i < 23 ⌝ }
+fn count(counts: &mut [u64; 16], i: usize)
+    requires { ⌜ i < 16 ⌝ }
 {
     counts[i] = std::num::wrapping_add_u64(counts[i], 1);
 }
 
 fn slot(verdict: Verdict) -> usize
-    ensures { λ r. ⌜ r ≤ 2 ⌝ }
+    ensures { λ r. ⌜ r ≤ 1 ⌝ }
 {
     match verdict {
         Verdict::Agrees => 0,
         Verdict::Differs => 1,
-        Verdict::NotYet => 2,
     }
 }
 
 // Counts a differing row, and names it where few have differed.
-fn count_differing(counts: &mut [u64; 23]) {
+fn count_differing(counts: &mut [u64; 16]) {
     count(counts, DIFFERING);
     if counts[DIFFERING] <= NAMED {
         print(b"row ");
@@ -115,15 +111,14 @@ fn count_differing(counts: &mut [u64; 23]) {
     }
 }
 
-fn count_row(counts: &mut [u64; 23], call: usize, verdict: Verdict)
+fn count_row(counts: &mut [u64; 16], call: usize, verdict: Verdict)
     requires { ⌜ call ≤ 6 ⌝ }
 {
     count(counts, ROWS);
-    count(counts, 3 * call + slot(verdict));
+    count(counts, 2 * call + slot(verdict));
     match verdict {
         Verdict::Agrees => (),
         Verdict::Differs => count_differing(counts),
-        Verdict::NotYet => (),
     }
 }
 
@@ -307,20 +302,28 @@ fn judged(agrees: bool) -> Verdict {
     Verdict::Differs
 }
 
-// What a call answers, beside the row. A call that has no branch here is not replayed yet.
-fn replay_text(call: usize, text: &[u8], row: &[u8], out: &mut [u8]) -> Verdict {
-    if call == KIND {
-        let answer = value::parse_kind(text, out);
-        return judged(says(row, answer, out));
+fn ask(call: usize, text: &[u8], out: &mut [u8]) -> Answer {
+    match call {
+        GENERAL => declaration::parse_declaration(text, out),
+        FUNCTION => declaration::parse_function(text, out),
+        CONSTRUCTOR => declaration::parse_constructor(text, out),
+        EVENT => declaration::parse_event(text, out),
+        ERROR => declaration::parse_error(text, out),
+        _ => value::parse_kind(text, out),
     }
+}
+
+// What a call answers, beside the row.
+fn replay_text(call: usize, text: &[u8], row: &[u8], out: &mut [u8]) -> Verdict {
     if call == OTHER {
         return Verdict::Differs;
     }
-    Verdict::NotYet
+    let answer = ask(call, text, out);
+    judged(says(row, answer, out))
 }
 
 // A text that is not decoded whole differs.
-fn replay_row(row: &[u8], text: &mut [u8], out: &mut [u8], counts: &mut [u64; 23]) {
+fn replay_row(row: &[u8], text: &mut [u8], out: &mut [u8], counts: &mut [u64; 16]) {
     let call = call_of(field(row, 0));
     let n = decode(field(row, 1), text);
     if is_hex(field(row, 1), &text[..n]) {
@@ -331,7 +334,7 @@ fn replay_row(row: &[u8], text: &mut [u8], out: &mut [u8], counts: &mut [u64; 23
 }
 
 // Replays the whole lines of a block, and answers how many bytes they take.
-fn replay_lines(block: &[u8], text: &mut [u8], out: &mut [u8], counts: &mut [u64; 23]) -> usize
+fn replay_lines(block: &[u8], text: &mut [u8], out: &mut [u8], counts: &mut [u64; 16]) -> usize
     ensures { λ r. ⌜ r ≤ length (now (block .entry)) ⌝ }
 {
     let mut at = 0;
@@ -376,7 +379,7 @@ fn replay_window(
     end: usize,
     text: &mut [u8],
     out: &mut [u8],
-    counts: &mut [u64; 23],
+    counts: &mut [u64; 16],
 ) -> usize
     requires { ⌜ end ≤ length (now window) ⌝ }
     ensures { λ r. ⌜ r ≤ length (now (window .exit)) ⌝ }
@@ -386,7 +389,7 @@ fn replay_window(
 }
 
 // Replays the list to its end. Nothing says that an input ends, so the turns are counted down from a number that none uses up.
-fn replay_list(window: &mut [u8], text: &mut [u8], out: &mut [u8], counts: &mut [u64; 23]) {
+fn replay_list(window: &mut [u8], text: &mut [u8], out: &mut [u8], counts: &mut [u64; 16]) {
     let mut held = 0;
     let mut turns = u64::MAX;
     while 0 < turns {
@@ -405,7 +408,7 @@ fn main() {
     let mut window = [0; 131072];
     let mut text = [0; 4096];
     let mut out = [0; 40960];
-    let mut counts = [0; 23];
+    let mut counts = [0; 16];
     replay_list(&mut window, &mut text, &mut out, &mut counts);
     print_summary(&counts);
 }
