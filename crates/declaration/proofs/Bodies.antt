@@ -330,31 +330,59 @@ module _ (s : List ℕ) where
   K : Declaration → ℕ → Ans Declaration
   K d n = onAns (λ _. d) (end s n)
 
-  exec-is : (k : Keyword) → onAns (encode 4) (exec (parserOf k) s) ≡ then (keyword (keywordText k) s 0) (λ _ n. bodyOf k s n)
-  unfolding exec K reading.function reading.constructor reading.event reading.error bodyOf tailOf nameOf identOf listIn returnsOf sortOf wordsOf absent outputsOf then option onAns keywordOf end
-  exec-is key.Function =
+  -- a keyword, and then its stages
+  abbrev Is : Keyword → Type 0
+  Is k = onAns (encode 4) (exec (parserOf k) s) ≡ then (keyword (keywordText k) s 0) (λ _ n. bodyOf k s n)
+
+  function-is : Is key.Function
+  unfolding exec K reading.function bodyOf tailOf nameOf identOf listIn returnsOf sortOf wordsOf absent outputsOf then
+  function-is =
       through (encode 4) K (keyword (keywordText key.Function) s 0) _ _ (λ _ n₁.
       through-on (encode 4) K (encodeName 4) (ident s n₁) _ _ (λ nm n₂.
       through-on (encode 4) K (encodeList 4) (fields (sortOf key.Function) s n₂) _ _ (λ ins n₃.
       through (encode 4) K (option (wordsOf key.Function) (absent key.Function) s n₃) _ _ (λ m n₄.
       through-on (encode 4) K (encodeList 4) (returns s n₄) _ _ (λ outs n₅.
       last (Declaration.function m nm ins outs) _ (end s n₅) (encode-function m nm ins outs))))))
-  exec-is key.Constructor =
+
+  constructor-is : Is key.Constructor
+  unfolding exec K reading.constructor bodyOf tailOf nameOf listIn sortOf wordsOf absent outputsOf then
+  constructor-is =
       through (encode 4) K (keyword (keywordText key.Constructor) s 0) _ _ (λ _ n₁.
       through-on (encode 4) K (encodeList 4) (fields (sortOf key.Constructor) s n₁) _ _ (λ ins n₃.
       through (encode 4) K (option (wordsOf key.Constructor) (absent key.Constructor) s n₃) _ _ (λ m n₄.
       last (Declaration.constructor m ins) _ (end s n₄) (encode-constructor m ins))))
-  exec-is key.Event =
+
+  event-is : Is key.Event
+  unfolding exec K reading.event bodyOf tailOf nameOf identOf listIn sortOf wordsOf absent outputsOf then
+  event-is =
       through (encode 4) K (keyword (keywordText key.Event) s 0) _ _ (λ _ n₁.
       through-on (encode 4) K (encodeName 4) (ident s n₁) _ _ (λ nm n₂.
       through-on (encode 4) K (encodeList 4) (fields (sortOf key.Event) s n₂) _ _ (λ ins n₃.
       through (encode 4) K (option (wordsOf key.Event) (absent key.Event) s n₃) _ _ (λ m n₄.
       last (Declaration.event m nm ins) _ (end s n₄) (encode-event m nm ins)))))
-  exec-is key.Error =
+
+  -- an error has no word behind its inputs
+  no-word : (at : ℕ) → option (wordsOf key.Error) (absent key.Error) s at ≡ got 0 at
+  unfolding option keywordOf wordsOf absent
+  no-word at = refl
+
+  error-tail : (u : List ℕ) (at : ℕ) → onAns (λ _. declarationOf key.Error 0 (u ++ [])) (end s at) ≡ tailOf key.Error u s at
+  unfolding tailOf outputsOf then
+  error-tail u at = sym (ap (λ (x : Ans ℕ). then x (λ m n. then (outputsOf key.Error s n) (λ v p. onAns (λ _. declarationOf key.Error m (u ++ v)) (end s p)))) (no-word at))
+
+  error-is : Is key.Error
+  unfolding exec K reading.error bodyOf nameOf identOf listIn sortOf then
+  error-is =
       through (encode 4) K (keyword (keywordText key.Error) s 0) _ _ (λ _ n₁.
       through-on (encode 4) K (encodeName 4) (ident s n₁) _ _ (λ nm n₂.
       through-on (encode 4) K (encodeList 4) (fields (sortOf key.Error) s n₂) _ _ (λ ins n₃.
-      last (Declaration.error nm ins) _ (end s n₃) (encode-error 0 nm ins))))
+      last (Declaration.error nm ins) _ (end s n₃) (encode-error 0 nm ins) ∙ error-tail (encodeName 4 nm ++ encodeList 4 ins) n₃)))
+
+  exec-is : (k : Keyword) → Is k
+  exec-is key.Function = function-is
+  exec-is key.Constructor = constructor-is
+  exec-is key.Event = event-is
+  exec-is key.Error = error-is
 
 -- a whole text
 module _ (s : List ℕ) (k : Keyword) (b : List ℕ) (r : Read) (t : Took s 5 (keywordIs k s) r) where
