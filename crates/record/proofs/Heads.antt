@@ -1,0 +1,53 @@
+-- Heads of records, and numbers of eight bytes.
+-- Assumes nothing.
+use mathlib.Core.Path.{_≡_, refl, ap}
+use mathlib.Core.Bool.{Bool, true, false, _&&_, and-eq-true-iff}
+use mathlib.Core.List.{List, [], _∷_, _++_}
+use Prim.Native.Nat.{ℕ, _+_, _*_, _-_, _^_, _≤_, _<_}
+use native.Mathlib.Omega.{arith}
+use native.Mathlib.Nat.{pow-succ', mul-assoc}
+use lib.Dec.{leb}
+use lib.ListN.{length, take, drop, length-drop, take-append-drop}
+use lib.Seq.{take-all, length-take-le}
+use borrow.Author.Tests.{leb-true, le-leb}
+use Rattle.model.specs.Layout.{leValue, noPiece, pieceOf}
+use Rattle.record.specs.Parts.{Head}
+
+-- no record, where its length does not lie between 6 and what there is
+no-piece : (b : List ℕ) → (6 ≤ leValue (take 4 b) → leValue (take 4 b) ≤ length b → ⊥) → pieceOf 4 b ≡ noPiece
+unfolding pieceOf
+no-piece b h = go (leb 6 (leValue (take 4 b)) && leb (leValue (take 4 b)) (length b)) refl
+  where
+    go : (t : Bool) → (leb 6 (leValue (take 4 b)) && leb (leValue (take 4 b)) (length b)) ≡ t → pieceOf 4 b ≡ noPiece
+    go false e = rw (pieceOf, e)
+    go true e = let (low, high) = and-eq-true-iff _ _ .0 e in absurd (h (leb-true _ _ low) (leb-true _ _ high))
+
+pub head-short : (b : List ℕ) → length b < 6 → Head b 0
+head-short b h = record { inside = omega arith; none = λ _. no-piece b (λ x y. omega arith); some = λ x. absurd (omega arith) }
+
+pub head-long : (b : List ℕ) (n : ℕ) → n ≡ leValue (take 4 (drop 0 b)) → length b < n → Head b 0
+head-long b n e h = record { inside = omega arith; none = λ _. no-piece b (λ x y. omega arith); some = λ x. absurd (omega arith) }
+
+pub head-is : (b : List ℕ) (n : ℕ) → n ≡ leValue (take 4 (drop 0 b)) → n ≤ length b → Head b n
+unfolding pieceOf
+head-is b n e h = record {
+  inside = h;
+  none = λ x. no-piece b (λ y z. omega arith);
+  some = λ x. rw e (rw (pieceOf, le-leb 6 (leValue (take 4 b)) (omega arith), le-leb (leValue (take 4 b)) (length b) (omega arith)));
+}
+
+-- bytes in two halves
+le-append : (x y : List ℕ) → leValue (x ++ y) ≡ leValue x + 256 ^ length x * leValue y
+unfolding leValue
+le-append [] y = omega arith
+le-append (c ∷ x) y = omega (arith, le-append x y, pow-succ' 256 (length x), ap (λ n. n * leValue y) (pow-succ' 256 (length x)), mul-assoc 256 (256 ^ length x) (leValue y))
+
+pub eight-sum : (t : List ℕ) (a b x y : ℕ) → a + 4 ≤ length t → x ≡ leValue (take 4 (drop a t)) → y ≡ leValue (take 4 (drop b t)) → x + 4294967296 * y ≡ leValue (take 4 (drop a t) ++ take 4 (drop b t))
+eight-sum t a b x y h e f =
+    let four : length (take 4 (drop a t)) ≡ 4 = length-take-le 4 (drop a t) (rw length-drop (omega arith)) in
+    omega (arith, rw four at (le-append (take 4 (drop a t)) (take 4 (drop b t))))
+
+pub get8-is : (b : List ℕ) (r : ℕ) → length b ≡ 8 → r ≡ leValue (take 4 (drop 0 b) ++ take 4 (drop 4 b)) → r ≡ leValue b
+get8-is b r h e = rw (take-all 4 (drop 4 b) (rw length-drop (omega arith)), take-append-drop 4 b) at e
+
+pub ruleset heads = (head-short, head-long, head-is, eight-sum, get8-is)

@@ -1,0 +1,201 @@
+-- How long the texts of numbers and of elementary kinds are.
+-- Assumes nothing.
+use mathlib.Core.Path.{_≡_, refl, sym, _∙_, ap}
+use mathlib.Core.Bool.{Bool, true, false}
+use mathlib.Core.List.{List, [], _∷_, _++_}
+use mathlib.Core.Option.{Option, none, some}
+use Prim.Native.Nat.{ℕ, _+_, _-_, _/_, _%_, _≤_, _<_}
+use native.Mathlib.Omega.{arith}
+use lib.Dec.{eqb}
+use lib.ListN.{length, take, drop, length-append}
+use lib.Seq.{take-all}
+use borrow.Author.Tests.{le-leb, lt-leb, eq-eqb, ne-eqb}
+use Rattle.kinds.specs.Decimal.{decimal}
+use Rattle.kinds.specs.Kind.{bits, octets, isBitWidth, isByteLength, Elementary, int, uint, fixedBytes, address, bool, bytes, string, elementaryText, suffixText, sized, unsized}
+use Rattle.kinds.proofs.Decimal.{decimal-one, decimal-more, decimal-short}
+use Rattle.model.specs.Layout.{leValue}
+use Rattle.model.specs.Record.{onOption, when, ended, wholly, Case, case, select, elementaryCases, suffixCases, decodeElementary, decodeSuffix}
+use Rattle.record.specs.Texts.{measured, numbered, bare, elementaryFrom, suffixFrom}
+
+-- digits: one by itself, and those before the last
+one-digit : (v : ℕ) → v < 10 → length (decimal v) ≡ 1
+one-digit v h = rw (decimal-one v h)
+
+more-digits : (v : ℕ) → 10 ≤ v → length (decimal v) ≡ length (decimal (v / 10)) + 1
+more-digits v h = rw (decimal-more v h, length-append)
+
+-- the loop that counts them: l is the count of them all
+pub record Counted (v rest n : ℕ) : Type 0 where
+  pub count : n + length (decimal rest) ≡ length (decimal v) + 1
+  pub small : length (decimal v) ≤ 20
+
+pub counted-start : (v : ℕ) → v < 18446744073709551616 → Counted v v 1
+counted-start v h = record { count = omega arith; small = decimal-short 20 v (omega arith) (omega arith) }
+
+pub counted-next : (v rest n : ℕ) → Counted v rest n → 10 ≤ rest → Counted v (rest / 10) (n + 1)
+counted-next v rest n i h = record { count = omega (arith, more-digits rest h, i .count); small = i .small }
+
+pub counted-end : (v rest n : ℕ) → Counted v rest n → rest < 10 → n ≡ length (decimal v)
+counted-end v rest n i h = omega (arith, one-digit rest h, i .count)
+
+pub counted-small : (v rest n : ℕ) → Counted v rest n → rest < 10 → n ≤ 20
+counted-small v rest n i h = omega (arith, one-digit rest h, i .count, i .small)
+
+pub small-one : (v : ℕ) → v < 10 → 1 ≡ length (decimal v)
+small-one v h = sym (one-digit v h)
+
+pub small-two : (v : ℕ) → 10 ≤ v → v < 100 → 2 ≡ length (decimal v)
+small-two v h k = omega (arith, more-digits v h, one-digit (v / 10) (omega arith))
+
+pub small-three : (v : ℕ) → 100 ≤ v → v < 1000 → 3 ≡ length (decimal v)
+small-three v h k = omega (arith, more-digits v (omega arith), more-digits (v / 10) (omega arith), one-digit (v / 10 / 10) (omega arith))
+
+-- a number behind a word
+module _ (t : ℕ → Bool) (word : ℕ) (body : List ℕ) where
+  pub numbered-not : (length body ≡ 2 → ⊥) → 0 ≡ numbered t word body
+  unfolding numbered
+  numbered-not h = rw (numbered, ne-eqb (length body) 2 h)
+
+  module _ (n : ℕ) (h : length body ≡ 2) (e : n ≡ leValue (take 2 (drop 0 body))) where
+    all-of-it : leValue body ≡ n
+    all-of-it = sym (e ∙ ap leValue (take-all 2 body (omega arith)))
+
+    numbered-no : t n ≡ false → 0 ≡ numbered t word body
+    unfolding numbered
+    numbered-no f = rw (numbered, eq-eqb (length body) 2 h, all-of-it, f)
+
+    numbered-yes : (m : ℕ) → t n ≡ true → m ≡ length (decimal n) → word + m ≡ numbered t word body
+    unfolding numbered
+    numbered-yes m f g = rw (numbered, eq-eqb (length body) 2 h, all-of-it, f, all-of-it) (ap (λ x. word + x) g)
+
+module _ (word : ℕ) (body : List ℕ) (n : ℕ) (h : length body ≡ 2) (e : n ≡ leValue (take 2 (drop 0 body))) where
+  pub width-most : n ≡ 256 → word + 3 ≡ numbered isBitWidth word body
+  width-most z = numbered-yes isBitWidth word body n h e 3 (rw z) (small-three n (omega arith) (omega arith))
+
+  pub width-zero : n ≡ 0 → 0 ≡ numbered isBitWidth word body
+  width-zero z = numbered-no isBitWidth word body n h e (rw z)
+
+  pub width-large : 256 < n → 0 ≡ numbered isBitWidth word body
+  width-large l = numbered-no isBitWidth word body n h e (rw (le-leb 1 n (omega arith), lt-leb n 256 l))
+
+  pub width-odd : (n ≡ 0 → ⊥) → n ≤ 256 → (n % 8 ≡ 0 → ⊥) → 0 ≡ numbered isBitWidth word body
+  width-odd z l o = numbered-no isBitWidth word body n h e (rw (le-leb 1 n (omega arith), le-leb n 256 l, ne-eqb (n % 8) 0 o))
+
+  pub width-is : (m : ℕ) → (n ≡ 0 → ⊥) → n ≤ 256 → n % 8 ≡ 0 → m ≡ length (decimal n) → word + m ≡ numbered isBitWidth word body
+  width-is m z l o g = numbered-yes isBitWidth word body n h e m (rw (le-leb 1 n (omega arith), le-leb n 256 l, o)) g
+
+  pub byte-length-zero : n ≡ 0 → 0 ≡ numbered isByteLength word body
+  byte-length-zero z = numbered-no isByteLength word body n h e (rw z)
+
+  pub byte-length-large : 32 < n → 0 ≡ numbered isByteLength word body
+  byte-length-large l = numbered-no isByteLength word body n h e (rw (le-leb 1 n (omega arith), lt-leb n 32 l))
+
+  pub byte-length-is : (m : ℕ) → (n ≡ 0 → ⊥) → n ≤ 32 → m ≡ length (decimal n) → word + m ≡ numbered isByteLength word body
+  byte-length-is m z l g = numbered-yes isByteLength word body n h e m (rw (le-leb 1 n (omega arith), le-leb n 32 l)) g
+
+pub bare-is : (word : ℕ) (body : List ℕ) → length body ≡ 0 → word ≡ bare word body
+unfolding bare
+bare-is word body h = rw (bare, eq-eqb (length body) 0 h)
+
+pub bare-not : (word : ℕ) (body : List ℕ) → (length body ≡ 0 → ⊥) → 0 ≡ bare word body
+unfolding bare
+bare-not word body h = rw (bare, ne-eqb (length body) 0 h)
+
+-- what a body says, by its text
+module _ {A : Type 0} (text : A → List ℕ) (word : ℕ) (body : List ℕ) where
+  numbered-text : (t : ℕ → Bool) (f : ℕ → A) → ((n : ℕ) → length (text (f n)) ≡ word + length (decimal n))
+      → numbered t word body ≡ measured (onOption text (wholly 2 body (λ n. when (t n) (some (f n)))))
+  unfolding numbered measured
+  numbered-text t f h = go (eqb (length body) 2)
+    where
+      inner : (b : Bool) → elim b as (λ _. ℕ) [ true ↦ word + length (decimal (leValue body)) | false ↦ 0 ] ≡ measured (onOption text (when b (some (f (leValue body)))))
+      inner true = sym (h (leValue body))
+      inner false = refl
+
+      go : (b : Bool) → elim b as (λ _. ℕ) [ true ↦ elim (t (leValue body)) [ true ↦ word + length (decimal (leValue body)) | false ↦ 0 ] | false ↦ 0 ]
+          ≡ measured (onOption text (elim b as (λ _. Option A) [ true ↦ when (t (leValue body)) (some (f (leValue body))) | false ↦ none ]))
+      go true = inner (t (leValue body))
+      go false = refl
+
+  bare-text : (a : A) → length (text a) ≡ word → bare word body ≡ measured (onOption text (ended body (some a)))
+  unfolding bare measured
+  bare-text a h = go body
+    where
+      go : (c : List ℕ) → bare word c ≡ measured (onOption text (ended c (some a)))
+      go [] = sym h
+      go (x ∷ c) = sym (bare-not word (x ∷ c) (λ e. omega arith))
+
+module _ (k : ℕ) (body : List ℕ) (r : ℕ) where
+  pub elementary-int : k ≡ 1 → r ≡ numbered isBitWidth 3 body → r ≡ measured (elementaryFrom k body)
+  unfolding elementaryFrom decodeElementary elementaryText
+  elementary-int e f = rw e (f ∙ numbered-text elementaryText 3 body isBitWidth (λ n. int (bits n)) (λ n. omega arith))
+
+  pub elementary-uint : k ≡ 2 → r ≡ numbered isBitWidth 4 body → r ≡ measured (elementaryFrom k body)
+  unfolding elementaryFrom decodeElementary elementaryText
+  elementary-uint e f = rw e (f ∙ numbered-text elementaryText 4 body isBitWidth (λ n. uint (bits n)) (λ n. omega arith))
+
+  pub elementary-address : k ≡ 3 → r ≡ bare 7 body → r ≡ measured (elementaryFrom k body)
+  unfolding elementaryFrom decodeElementary elementaryText
+  elementary-address e f = rw e (f ∙ bare-text elementaryText 7 body address refl)
+
+  pub elementary-bool : k ≡ 4 → r ≡ bare 4 body → r ≡ measured (elementaryFrom k body)
+  unfolding elementaryFrom decodeElementary elementaryText
+  elementary-bool e f = rw e (f ∙ bare-text elementaryText 4 body bool refl)
+
+  pub elementary-fixed : k ≡ 5 → r ≡ numbered isByteLength 5 body → r ≡ measured (elementaryFrom k body)
+  unfolding elementaryFrom decodeElementary elementaryText
+  elementary-fixed e f = rw e (f ∙ numbered-text elementaryText 5 body isByteLength (λ n. fixedBytes (octets n)) (λ n. omega arith))
+
+  pub elementary-function : k ≡ 6 → r ≡ bare 8 body → r ≡ measured (elementaryFrom k body)
+  unfolding elementaryFrom decodeElementary elementaryText
+  elementary-function e f = rw e (f ∙ bare-text elementaryText 8 body Elementary.function refl)
+
+  pub elementary-bytes : k ≡ 7 → r ≡ bare 5 body → r ≡ measured (elementaryFrom k body)
+  unfolding elementaryFrom decodeElementary elementaryText
+  elementary-bytes e f = rw e (f ∙ bare-text elementaryText 5 body bytes refl)
+
+  pub elementary-string : k ≡ 8 → r ≡ bare 6 body → r ≡ measured (elementaryFrom k body)
+  unfolding elementaryFrom decodeElementary elementaryText
+  elementary-string e f = rw e (f ∙ bare-text elementaryText 6 body string refl)
+
+-- a number that none of the cases has
+module _ {A : Type 0} where
+  abbrev pub Misses : ℕ → List (Case A) → Type 0
+  Misses k [] = Unit {0}
+  Misses k (case n a ∷ cs) = (k ≡ n → ⊥) × Misses k cs
+
+  pub select-other : (k : ℕ) (cs : List (Case A)) (d : A) → Misses k cs → select cs d k ≡ d
+  select-other k [] d m = refl
+  select-other k (case n a ∷ cs) d m = rw (ne-eqb n k (λ q. m .0 (sym q)), select) (select-other k cs d (m .1))
+
+pub elementary-other : (k : ℕ) (body : List ℕ) → Misses k elementaryCases → 0 ≡ measured (elementaryFrom k body)
+unfolding elementaryFrom decodeElementary measured
+elementary-other k body m = ap (λ T. measured (onOption elementaryText (T body))) (sym (select-other k elementaryCases (λ _. none) m))
+
+module _ {A : Type 0} (n : ℕ) (body : List ℕ) (f : ℕ → Option A) where
+  wholly-is : length body ≡ n → wholly n body f ≡ f (leValue body)
+  wholly-is h = rw (wholly, eq-eqb (length body) n h)
+
+  wholly-not : (length body ≡ n → ⊥) → wholly n body f ≡ none
+  wholly-not h = rw (wholly, ne-eqb (length body) n h)
+
+module _ (k : ℕ) (body : List ℕ) where
+  pub suffix-sized : (v n : ℕ) → k ≡ 10 → length body ≡ 8 → v ≡ leValue body → n ≡ length (decimal v) → 2 + n ≡ measured (suffixFrom k body)
+  unfolding suffixFrom decodeSuffix suffixText measured
+  suffix-sized v n e h f g =
+      let size : 2 + n ≡ length (91 ∷ (decimal v ++ (93 ∷ []))) = omega (arith, length-append (decimal v) (93 ∷ [])) in
+      rw e (rw f at size ∙ ap (λ o. measured (onOption suffixText o)) (sym (wholly-is 8 body (λ m. some (sized m)) h)))
+
+  pub suffix-odd : k ≡ 10 → (length body ≡ 8 → ⊥) → 0 ≡ measured (suffixFrom k body)
+  unfolding suffixFrom decodeSuffix measured
+  suffix-odd e h = rw e (ap (λ o. measured (onOption suffixText o)) (sym (wholly-not 8 body (λ m. some (sized m)) h)))
+
+  pub suffix-open : (r : ℕ) → k ≡ 11 → r ≡ bare 2 body → r ≡ measured (suffixFrom k body)
+  unfolding suffixFrom decodeSuffix suffixText
+  suffix-open r e f = rw e (f ∙ bare-text suffixText 2 body unsized refl)
+
+  pub suffix-other : (k ≡ 10 → ⊥) → (k ≡ 11 → ⊥) → 0 ≡ measured (suffixFrom k body)
+  unfolding suffixFrom decodeSuffix measured
+  suffix-other g h = ap (λ T. measured (onOption suffixText (T body))) (sym (select-other k suffixCases (λ _. none) (g, (h, tt))))
+
+pub ruleset lengths = (counted-start, counted-next, counted-end, counted-small, small-one, small-two, small-three, numbered-not, width-most, width-zero, width-large, width-odd, width-is, byte-length-zero, byte-length-large, byte-length-is, bare-is, bare-not, elementary-int, elementary-uint, elementary-address, elementary-bool, elementary-fixed, elementary-function, elementary-bytes, elementary-string, elementary-other, suffix-sized, suffix-odd, suffix-open, suffix-other)

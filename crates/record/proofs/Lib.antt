@@ -1,0 +1,10 @@
+pub mod Heads
+pub mod Lengths
+pub mod Names
+pub mod Loops
+pub mod Equations
+pub mod Walk
+pub mod Tops
+pub mod There
+pub mod Whole
+pub mod Eights

@@ -1,0 +1,606 @@
+// Whether bytes that anyone may hand in are a record, and how long the texts are of what they say.
+// Lengths of texts are 0 where there is none: no kind has an empty text.
+use model::Sort;
+ghost use mathlib.Core.Path.{_≡_};
+ghost use Prim.Native.Nat.{_+_, _*_, _≤_, _<_};
+ghost use lib.ListN.{length, take, drop};
+ghost use Rattle.kinds.specs.Bytes.{all, isLetter, isWord};
+ghost use Rattle.kinds.specs.Decimal.{decimal};
+ghost use Rattle.kinds.specs.Kind.{isBitWidth, isByteLength};
+ghost use Rattle.model.specs.Layout.{littleEndian, leValue};
+ghost use mathlib.Core.Bool.{true};
+ghost use mathlib.Core.List.{_++_};
+ghost use mathlib.Core.Option.{none};
+ghost use Rattle.model.specs.declared.Sort.the-variants.{Plain};
+ghost use Rattle.model.specs.Record.{isFieldName, isMark, decodeField, functionFrom, constructorFrom, eventFrom, errorFrom, decode, decodeLone};
+ghost use Rattle.record.specs.Says.{Says, NameEnds, ListIs};
+ghost use Rattle.record.specs.Texts.{measured, behind, numbered, bare, elementaryFrom, suffixFrom, suffixesFrom, kindFrom, fieldTextFrom, tupleTextFrom};
+ghost use Rattle.record.specs.Parts.{Head, Front, Alone};
+
+// The length of the record that a part begins with; below 6 where there is none.
+fn record_length(b: &[u8]) -> usize
+    ensures { λ r. ⌜ Head (now (b .entry)) r ⌝ }
+{
+    if b.len() < 6 {
+        return 0;
+    }
+    let n = layout::get4(b, 0);
+    if b.len() < n {
+        return 0;
+    }
+    n
+}
+
+// The number of four bytes at a place and four at another.
+fn eight(t: &[u8], a: usize, b: usize) -> u64
+    requires { ⌜ (a + 4 ≤ length (now t)) × (b + 4 ≤ length (now t)) ⌝ }
+    ensures { λ r. ⌜ r ≡ leValue (take 4 (drop a (now (t .entry))) ++ take 4 (drop b (now (t .entry)))) ⌝ }
+{
+    layout::get4(t, a) as u64 + 4294967296 * (layout::get4(t, b) as u64)
+}
+
+// The number of eight bytes.
+pub fn get8(b: &[u8]) -> u64
+    requires { ⌜ length (now b) ≡ 8 ⌝ }
+    ensures { λ r. ⌜ r ≡ leValue (now (b .entry)) ⌝ }
+{
+    eight(b, 0, 4)
+}
+
+// How many digits a number has.
+pub fn decimal_length(v: u64) -> usize
+    ensures { λ r. ⌜ (r ≡ length (decimal v)) × (r ≤ 20) ⌝ }
+{
+    let mut n = 1;
+    let mut rest = v;
+    while 10 <= rest {
+        rest = rest / 10;
+        n += 1;
+    }
+    n
+}
+
+// The same for a number of at most three digits.
+fn small_length(v: usize) -> usize
+    requires { ⌜ v < 1000 ⌝ }
+    ensures { λ r. ⌜ (r ≡ length (decimal v)) × (r ≤ 3) ⌝ }
+{
+    if v < 10 {
+        return 1;
+    }
+    if v < 100 {
+        return 2;
+    }
+    3
+}
+
+// A kind with a bit width behind a word of so many bytes.
+fn width(word: usize, body: &[u8]) -> usize
+    requires { ⌜ word ≤ 5 ⌝ }
+    ensures { λ r. ⌜ (r ≡ numbered isBitWidth word (now (body .entry))) × (r ≤ word + 3) ⌝ }
+{
+    if body.len() == 2 {
+        let n = layout::get2(body, 0);
+        if n == 256 {
+            return word + 3;
+        }
+        if n == 0 {
+            return 0;
+        }
+        if 256 < n {
+            return 0;
+        }
+        if n % 8 == 0 {
+            return word + small_length(n);
+        }
+        return 0;
+    }
+    0
+}
+
+// A kind with a byte length behind a word of so many bytes.
+fn byte_length(word: usize, body: &[u8]) -> usize
+    requires { ⌜ word ≤ 5 ⌝ }
+    ensures { λ r. ⌜ (r ≡ numbered isByteLength word (now (body .entry))) × (r ≤ word + 3) ⌝ }
+{
+    if body.len() == 2 {
+        let n = layout::get2(body, 0);
+        if n == 0 {
+            return 0;
+        }
+        if 32 < n {
+            return 0;
+        }
+        return word + small_length(n);
+    }
+    0
+}
+
+// A kind that is a word alone.
+fn bare(word: usize, body: &[u8]) -> usize
+    ensures { λ r. ⌜ (r ≡ bare word (now (body .entry))) × (r ≤ word) ⌝ }
+{
+    if body.len() == 0 {
+        return word;
+    }
+    0
+}
+
+// The text of an elementary kind, by its record's kind and body.
+fn elementary(k: usize, body: &[u8]) -> usize
+    ensures { λ r. ⌜ (r ≡ measured (elementaryFrom k (now (body .entry)))) × (r ≤ 8) ⌝ }
+{
+    match k {
+        1 => width(3, body),
+        2 => width(4, body),
+        3 => bare(7, body),
+        4 => bare(4, body),
+        5 => byte_length(5, body),
+        6 => bare(8, body),
+        7 => bare(5, body),
+        8 => bare(6, body),
+        _ => 0,
+    }
+}
+
+// The text of a suffix, by its record's kind and body.
+fn suffix(k: usize, body: &[u8]) -> usize
+    ensures { λ r. ⌜ (r ≡ measured (suffixFrom k (now (body .entry)))) × (r ≤ 2 * length (now (body .entry)) + 6) ⌝ }
+{
+    match k {
+        10 => {
+            if body.len() == 8 {
+                return 2 + decimal_length(get8(body));
+            }
+            0
+        }
+        11 => bare(2, body),
+        _ => 0,
+    }
+}
+
+// The suffixes up to the end, behind a text of so many bytes.
+fn suffixes(b: &[u8], text: usize) -> usize
+    requires { ⌜ text + 2 * length (now b) < 18446744073709551616 ⌝ }
+    ensures { λ r. ⌜ (r ≡ behind text (suffixesFrom (now (b .entry)))) × (r ≤ text + 2 * length (now (b .entry))) ⌝ }
+{
+    let mut at = 0;
+    let mut n = text;
+    while at < b.len() {
+        let t = &b[at..];
+        let l = record_length(t);
+        if l < 6 {
+            return 0;
+        }
+        let s = suffix(layout::get2(t, 4), &t[6..l]);
+        if s == 0 {
+            return 0;
+        }
+        n += s;
+        at += l;
+    }
+    n
+}
+
+// Whether eight bytes are all letters, a-z or A-Z: they are below 128, and with the bit of 32 set they go from 97 to 122.
+fn letters(v: u64) -> bool
+    ensures { λ r. ⌜ (r ≡ true → all isLetter (littleEndian 8 v) ≡ true) ⌝ }
+{
+    if v & 0x8080808080808080 == 0 {
+        let u = v | 0x2020202020202020;
+        if (u + 0x0505050505050505) & 0x8080808080808080 == 0 {
+            return (u + 0x1F1F1F1F1F1F1F1F) & 0x8080808080808080 == 0x8080808080808080;
+        }
+    }
+    false
+}
+
+// Whether a name is of letters alone, eight bytes at a time, the last eight once more: the quick way for most names of four bytes or more.
+fn is_lettered(t: &[u8]) -> bool
+    ensures { λ r. ⌜ (r ≡ true → isWord (now (t .entry)) ≡ true) ⌝ }
+{
+    let n = t.len();
+    if n < 4 {
+        return false;
+    }
+    let mut i = 0;
+    while 8 < n - i {
+        if letters(eight(t, i, i + 4)) {
+            i += 8;
+        } else {
+            return false;
+        }
+    }
+    if n < 8 {
+        return letters(eight(t, 0, n - 4));
+    }
+    letters(eight(t, n - 8, n - 4))
+}
+
+// "names that are words"
+fn is_word(t: &[u8]) -> bool
+    ensures { λ r. ⌜ r ≡ isWord (now (t .entry)) ⌝ }
+{
+    if is_lettered(t) {
+        return true;
+    }
+    if t.len() == 0 {
+        return false;
+    }
+    if text::is_letter(t[0]) {
+        let mut i = 1;
+        while i < t.len() {
+            if text::is_word_byte(t[i]) {
+                i += 1;
+            } else {
+                return false;
+            }
+        }
+        return true;
+    }
+    false
+}
+
+// "(only a field's may be empty)"
+fn is_field_name(t: &[u8]) -> bool
+    ensures { λ r. ⌜ r ≡ isFieldName (now (t .entry)) ⌝ }
+{
+    if t.len() == 0 {
+        return true;
+    }
+    is_word(t)
+}
+
+// "mark 1 only in an event's own list, and there no mark 0 with the name `indexed`"
+fn is_mark(sort: Sort, mark: usize, name: &[u8]) -> bool
+    ensures { λ r. ⌜ r ≡ isMark sort mark (now (name .entry)) ⌝ }
+{
+    if mark == 0 {
+        match sort {
+            Sort::Plain => true,
+            Sort::Parameter => true,
+            Sort::Event => {
+                if text::equal(b"indexed", name) {
+                    return false;
+                }
+                true
+            }
+        }
+    } else {
+        match sort {
+            Sort::Plain => false,
+            Sort::Parameter => false,
+            Sort::Event => mark == 1,
+        }
+    }
+}
+
+// The place behind a field's name in its record's body; 0 where its mark or its name is not well formed.
+fn front(body: &[u8], sort: Sort) -> usize
+    ensures { λ r. ⌜ Front sort (now (body .entry)) r ⌝ }
+{
+    if body.len() < 2 {
+        return 0;
+    }
+    let t = &body[2..];
+    let m = record_length(t);
+    if m < 6 {
+        return 0;
+    }
+    if layout::get2(t, 4) == 0x11 {
+        let name = &t[6..m];
+        if is_mark(sort, layout::get2(body, 0), name) {
+            if is_field_name(name) {
+                return 2 + m;
+            }
+        }
+    }
+    0
+}
+
+// The text of the fields of a list of a sort in brackets, where d tuples may nest.
+fn fields(b: &[u8], sort: Sort, d: usize) -> usize
+    ensures { λ r. ⌜ (r ≡ measured (tupleTextFrom sort d (now (b .entry)))) × (r ≤ 2 * length (now (b .entry)) + 2) ⌝ }
+{
+    let mut at = 0;
+    let mut n = 0;
+    while at < b.len() {
+        let t = &b[at..];
+        let l = record_length(t);
+        if l < 6 {
+            return 0;
+        }
+        let s = field(layout::get2(t, 4), &t[6..l], sort, d);
+        if s == 0 {
+            return 0;
+        }
+        n += s + 1;
+        at += l;
+    }
+    if n == 0 {
+        return 2;
+    }
+    n + 1
+}
+
+// The text of a field's kind, by its record's kind and body.
+fn field(k: usize, body: &[u8], sort: Sort, d: usize) -> usize
+    ensures { λ r. ⌜ (r ≡ measured (fieldTextFrom sort d k (now (body .entry)))) × (r ≤ 2 * length (now (body .entry))) ⌝ }
+{
+    if k == 0x10 {
+        let q = front(body, sort);
+        if q == 0 {
+            return 0;
+        }
+        return kind(&body[q..], d);
+    }
+    0
+}
+
+// The text of a base and its suffixes. A tuple is gone into only where one may still nest.
+fn kind(t: &[u8], d: usize) -> usize
+    ensures { λ r. ⌜ (r ≡ measured (kindFrom d (now (t .entry)))) × (r ≤ 2 * length (now (t .entry))) ⌝ }
+{
+    let n = record_length(t);
+    if n < 6 {
+        return 0;
+    }
+    let k = layout::get2(t, 4);
+    match k {
+        9 => {
+            if d == 0 {
+                return 0;
+            }
+            let s = fields(&t[6..n], Sort::Plain, d - 1);
+            if s == 0 {
+                return 0;
+            }
+            suffixes(&t[n..], s)
+        }
+        _ => {
+            let s = elementary(k, &t[6..n]);
+            if s == 0 {
+                return 0;
+            }
+            suffixes(&t[n..], s)
+        }
+    }
+}
+
+// A part of the record, from a place up to another.
+pub struct Spot {
+    pub from: usize,
+    pub to: usize,
+}
+
+// The same, with the length of the text that it stands for.
+pub struct Measured {
+    pub from: usize,
+    pub to: usize,
+    pub text: usize,
+}
+
+// What a record says: where its name and its lists stand, and how long the lists are in brackets; for a field, where its name and its kind
+// stand, and how long its kind is. What each case means is in specs/Says.antt.
+pub enum Checked {
+    Function {
+        name: Spot,
+        inputs: Measured,
+        outputs: Measured,
+    },
+    Constructor,
+    Event {
+        name: Spot,
+        inputs: Measured,
+    },
+    Error {
+        name: Spot,
+        inputs: Measured,
+    },
+    Field {
+        name: Spot,
+        kind: Measured,
+    },
+    IllFormed,
+}
+
+// The end of the name whose record stands at a place; 0 where there is none.
+fn name_end(b: &[u8], at: usize) -> usize
+    requires { ⌜ at ≤ length (now b) ⌝ }
+    ensures { λ r. ⌜ NameEnds (now (b .entry)) at r ⌝ }
+{
+    let t = &b[at..];
+    let n = record_length(t);
+    if n < 6 {
+        return 0;
+    }
+    if layout::get2(t, 4) == 0x11 {
+        if is_word(&t[6..n]) {
+            return at + n;
+        }
+    }
+    0
+}
+
+// The list of a sort whose record stands at a place; its text has length 0 where there is none.
+fn list(b: &[u8], at: usize, sort: Sort) -> Measured
+    requires { ⌜ at ≤ length (now b) ⌝ }
+    ensures { λ r. ⌜ ListIs (now (b .entry)) at sort r ⌝ }
+{
+    let t = &b[at..];
+    let n = record_length(t);
+    if n < 6 {
+        return missing();
+    }
+    if layout::get2(t, 4) == 0x12 {
+        return Measured {
+            from: at + 6,
+            to: at + n,
+            text: fields(&t[6..n], sort, 32),
+        };
+    }
+    missing()
+}
+
+// No list.
+fn missing() -> Measured
+    ensures { λ r. ⌜ (r .to ≡ 0) × (r .text ≡ 0) ⌝ }
+{
+    Measured {
+        from: 0,
+        to: 0,
+        text: 0,
+    }
+}
+
+// "function: mutability, 2 bytes; name; inputs; outputs"
+fn function(b: &[u8]) -> Checked
+    requires { ⌜ 6 ≤ length (now b) ⌝ }
+    ensures { λ r. ⌜ Says (now (b .entry)) (functionFrom 4 (drop 6 (now (b .entry)))) none r ⌝ }
+{
+    if b.len() < 8 {
+        return Checked::IllFormed;
+    }
+    if 3 < layout::get2(b, 6) {
+        return Checked::IllFormed;
+    }
+    let p = name_end(b, 8);
+    if p == 0 {
+        return Checked::IllFormed;
+    }
+    let inputs = list(b, p, Sort::Parameter);
+    if inputs.text == 0 {
+        return Checked::IllFormed;
+    }
+    let outputs = list(b, inputs.to, Sort::Parameter);
+    if outputs.text == 0 {
+        return Checked::IllFormed;
+    }
+    if outputs.to == b.len() {
+        return Checked::Function {
+            name: Spot { from: 14, to: p },
+            inputs,
+            outputs,
+        };
+    }
+    Checked::IllFormed
+}
+
+// "constructor: mutability (2 or 3); inputs"
+fn constructor(b: &[u8]) -> Checked
+    requires { ⌜ 6 ≤ length (now b) ⌝ }
+    ensures { λ r. ⌜ Says (now (b .entry)) (constructorFrom 4 (drop 6 (now (b .entry)))) none r ⌝ }
+{
+    if b.len() < 8 {
+        return Checked::IllFormed;
+    }
+    let m = layout::get2(b, 6);
+    if m < 2 {
+        return Checked::IllFormed;
+    }
+    if 3 < m {
+        return Checked::IllFormed;
+    }
+    let inputs = list(b, 8, Sort::Parameter);
+    if inputs.text == 0 {
+        return Checked::IllFormed;
+    }
+    if inputs.to == b.len() {
+        return Checked::Constructor;
+    }
+    Checked::IllFormed
+}
+
+// "event: anonymous, 2 bytes (0 or 1); name; inputs"
+fn event(b: &[u8]) -> Checked
+    requires { ⌜ 6 ≤ length (now b) ⌝ }
+    ensures { λ r. ⌜ Says (now (b .entry)) (eventFrom 4 (drop 6 (now (b .entry)))) none r ⌝ }
+{
+    if b.len() < 8 {
+        return Checked::IllFormed;
+    }
+    if 1 < layout::get2(b, 6) {
+        return Checked::IllFormed;
+    }
+    let p = name_end(b, 8);
+    if p == 0 {
+        return Checked::IllFormed;
+    }
+    let inputs = list(b, p, Sort::Event);
+    if inputs.text == 0 {
+        return Checked::IllFormed;
+    }
+    if inputs.to == b.len() {
+        return Checked::Event {
+            name: Spot { from: 14, to: p },
+            inputs,
+        };
+    }
+    Checked::IllFormed
+}
+
+// "error: name; inputs"
+fn error(b: &[u8]) -> Checked
+    requires { ⌜ 6 ≤ length (now b) ⌝ }
+    ensures { λ r. ⌜ Says (now (b .entry)) (errorFrom 4 (drop 6 (now (b .entry)))) none r ⌝ }
+{
+    let p = name_end(b, 6);
+    if p == 0 {
+        return Checked::IllFormed;
+    }
+    let inputs = list(b, p, Sort::Plain);
+    if inputs.text == 0 {
+        return Checked::IllFormed;
+    }
+    if inputs.to == b.len() {
+        return Checked::Error {
+            name: Spot { from: 12, to: p },
+            inputs,
+        };
+    }
+    Checked::IllFormed
+}
+
+// A field by itself, read as the one of a list.
+fn lone(b: &[u8]) -> Checked
+    requires { ⌜ Alone 0x10 (now b) ⌝ }
+    ensures { λ r. ⌜ Says (now (b .entry)) none (decodeField 4 Plain 0x10 (drop 6 (now (b .entry)))) r ⌝ }
+{
+    let n = fields(b, Sort::Plain, 32);
+    if n == 0 {
+        return Checked::IllFormed;
+    }
+    let q = 8 + layout::get4(b, 8);
+    Checked::Field {
+        name: Spot { from: 14, to: q },
+        kind: Measured {
+            from: q,
+            to: b.len(),
+            text: n - 2,
+        },
+    }
+}
+
+// What a record says, or that it is not well formed.
+pub fn check(b: &[u8]) -> Checked
+    ensures { λ r. ⌜ Says (now (b .entry)) (decode (now (b .entry))) (decodeLone (now (b .entry))) r ⌝ }
+{
+    if 40960 < b.len() {
+        return Checked::IllFormed;
+    }
+    let n = record_length(b);
+    if n < 6 {
+        return Checked::IllFormed;
+    }
+    if n < b.len() {
+        return Checked::IllFormed;
+    }
+    match layout::get2(b, 4) {
+        0x10 => lone(b),
+        0x20 => function(b),
+        0x21 => constructor(b),
+        0x22 => event(b),
+        0x23 => error(b),
+        _ => Checked::IllFormed,
+    }
+}
