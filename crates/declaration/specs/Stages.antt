@@ -56,21 +56,22 @@ listIn sort s at = onAns (encodeList 4) (fields sort s at)
 unfoldable pub returnsOf : List ℕ → ℕ → Ans (List ℕ)
 returnsOf s at = onAns (encodeList 4) (returns s at)
 
--- "fields of an event's own list", of an error's, and of the others'
+-- "In an event's own list the mark is `indexed`. In function and constructor lists it is `calldata` or `memory`": an error's has none
 unfoldable pub sortOf : Keyword → Sort
 sortOf key.Function = Parameter
 sortOf key.Constructor = Parameter
 sortOf key.Event = Event
 sortOf key.Error = Plain
 
--- a constructor has no name
+-- "a name (none for a constructor)"
 unfoldable pub nameOf : Keyword → List ℕ → ℕ → Ans (List ℕ)
 nameOf key.Function s at = identOf s at
 nameOf key.Constructor s at = got [] at
 nameOf key.Event s at = identOf s at
 nameOf key.Error s at = identOf s at
 
--- the word behind the inputs, and what stands for none
+-- the word behind the inputs, and what stands for none: "at most one of `pure`, `view`, `payable`"; "A constructor may have `payable`, an event
+-- `anonymous`"
 unfoldable pub wordsOf : Keyword → List (Entry ℕ)
 wordsOf key.Function = mutabilities
 wordsOf key.Constructor = entry (ascii "payable") isPayable ∷ []
@@ -91,7 +92,7 @@ pub record StatedIs (s : List ℕ) (at : ℕ) (k : Keyword) (m n : ℕ) : Type 0
   pub low : at ≤ n
   pub inside : n ≤ length s
 
--- only a function has outputs
+-- "and after it optionally `returns` with a list": only a function has outputs
 unfoldable pub outputsOf : Keyword → List ℕ → ℕ → Ans (List ℕ)
 outputsOf key.Function s at = returnsOf s at
 outputsOf key.Constructor s at = got [] at
