@@ -22,10 +22,10 @@ use Rattle.record.proofs.Loops.{Left, measured-none, left-end, left-non
 use Rattle.record.proofs.Equations.{suffixesIn, suffixes-in, suffix-steps, fieldsIn, parted, field-steps, tuple-empty, tuple-more, tuple-none, tuple-full, base-deep, base-tuple, base-elementary, elementary-filled, field-short, field-named, field-other}
 
 -- how long parts are
-rest-length : (t : List ℕ) (n : ℕ) → length (take (length t - n) (drop n t)) ≡ length t - n
+pub rest-length : (t : List ℕ) (n : ℕ) → length (take (length t - n) (drop n t)) ≡ length t - n
 rest-length t n = rw part-rest (length-drop n t)
 
-body-length : (t : List ℕ) (n : ℕ) → n ≤ length t → length (take (n - 6) (drop 6 t)) ≡ n - 6
+pub body-length : (t : List ℕ) (n : ℕ) → n ≤ length t → length (take (n - 6) (drop 6 t)) ≡ n - 6
 body-length t n h = length-take-le (n - 6) (drop 6 t) (rw length-drop (omega arith))
 
 -- the loop over suffixes

@@ -1,0 +1,208 @@
+// The lines that are written of a record: canonical text, signature and a field's kind; and the name in it.
+ghost use mathlib.Core.Path.{_≡_};
+ghost use Prim.Native.Nat.{_+_, _≤_, _<_};
+ghost use lib.ListN.{length};
+ghost use Rattle.kinds.specs.Bytes.{ascii};
+ghost use Rattle.kinds.specs.Decimal.{decimal};
+ghost use Rattle.layout.specs.Buffer.{put};
+ghost use Rattle.record.specs.Texts.{elementaryFrom, suffixFrom, suffixesFrom};
+ghost use Rattle.abi.specs.Writes.{Room, Wrote, KindRoom, KindWrote, TupleRoom, TupleWrote};
+
+// Words, each written at o; the place behind it.
+
+fn write_int(out: &mut [u8], o: usize) -> usize
+    requires { ⌜ o + 3 ≤ length (now out) ⌝ }
+    ensures { λ r. ⌜ (now (out .exit) ≡ put o (ascii "int") (now (out .entry))) × (r ≡ o + 3) ⌝ }
+{
+    out[o] = 105;
+    out[o + 1] = 110;
+    out[o + 2] = 116;
+    o + 3
+}
+
+fn write_uint(out: &mut [u8], o: usize) -> usize
+    requires { ⌜ o + 4 ≤ length (now out) ⌝ }
+    ensures { λ r. ⌜ (now (out .exit) ≡ put o (ascii "uint") (now (out .entry))) × (r ≡ o + 4) ⌝ }
+{
+    out[o] = 117;
+    out[o + 1] = 105;
+    out[o + 2] = 110;
+    out[o + 3] = 116;
+    o + 4
+}
+
+fn write_address(out: &mut [u8], o: usize) -> usize
+    requires { ⌜ o + 7 ≤ length (now out) ⌝ }
+    ensures { λ r. ⌜ (now (out .exit) ≡ put o (ascii "address") (now (out .entry))) × (r ≡ o + 7) ⌝ }
+{
+    out[o] = 97;
+    out[o + 1] = 100;
+    out[o + 2] = 100;
+    out[o + 3] = 114;
+    out[o + 4] = 101;
+    out[o + 5] = 115;
+    out[o + 6] = 115;
+    o + 7
+}
+
+fn write_bool(out: &mut [u8], o: usize) -> usize
+    requires { ⌜ o + 4 ≤ length (now out) ⌝ }
+    ensures { λ r. ⌜ (now (out .exit) ≡ put o (ascii "bool") (now (out .entry))) × (r ≡ o + 4) ⌝ }
+{
+    out[o] = 98;
+    out[o + 1] = 111;
+    out[o + 2] = 111;
+    out[o + 3] = 108;
+    o + 4
+}
+
+fn write_bytes(out: &mut [u8], o: usize) -> usize
+    requires { ⌜ o + 5 ≤ length (now out) ⌝ }
+    ensures { λ r. ⌜ (now (out .exit) ≡ put o (ascii "bytes") (now (out .entry))) × (r ≡ o + 5) ⌝ }
+{
+    out[o] = 98;
+    out[o + 1] = 121;
+    out[o + 2] = 116;
+    out[o + 3] = 101;
+    out[o + 4] = 115;
+    o + 5
+}
+
+fn write_function(out: &mut [u8], o: usize) -> usize
+    requires { ⌜ o + 8 ≤ length (now out) ⌝ }
+    ensures { λ r. ⌜ (now (out .exit) ≡ put o (ascii "function") (now (out .entry))) × (r ≡ o + 8) ⌝ }
+{
+    out[o] = 102;
+    out[o + 1] = 117;
+    out[o + 2] = 110;
+    out[o + 3] = 99;
+    out[o + 4] = 116;
+    out[o + 5] = 105;
+    out[o + 6] = 111;
+    out[o + 7] = 110;
+    o + 8
+}
+
+fn write_string(out: &mut [u8], o: usize) -> usize
+    requires { ⌜ o + 6 ≤ length (now out) ⌝ }
+    ensures { λ r. ⌜ (now (out .exit) ≡ put o (ascii "string") (now (out .entry))) × (r ≡ o + 6) ⌝ }
+{
+    out[o] = 115;
+    out[o + 1] = 116;
+    out[o + 2] = 114;
+    out[o + 3] = 105;
+    out[o + 4] = 110;
+    out[o + 5] = 103;
+    o + 6
+}
+
+// Numbers, in plain decimal.
+
+// A number of at most three digits.
+fn write_small(out: &mut [u8], o: usize, v: usize) -> usize
+    requires { ⌜ (v < 1000) × (o + length (decimal v) ≤ length (now out)) ⌝ }
+    ensures { λ r. ⌜ (now (out .exit) ≡ put o (decimal v) (now (out .entry))) × (r ≡ o + length (decimal v)) ⌝ }
+{
+    if v == 256 {
+        out[o] = 50;
+        out[o + 1] = 53;
+        out[o + 2] = 54;
+        return o + 3;
+    }
+    if v < 10 {
+        out[o] = (48 + v) as u8;
+        return o + 1;
+    }
+    let tens = v / 10;
+    if v < 100 {
+        out[o] = (48 + tens) as u8;
+        out[o + 1] = (48 + v % 10) as u8;
+        return o + 2;
+    }
+    out[o] = (48 + tens / 10) as u8;
+    out[o + 1] = (48 + tens % 10) as u8;
+    out[o + 2] = (48 + v % 10) as u8;
+    o + 3
+}
+
+// Any number: its digits from the last to the first.
+fn write_decimal(out: &mut [u8], o: usize, v: u64) -> usize
+    requires { ⌜ o + length (decimal v) ≤ length (now out) ⌝ }
+    ensures { λ r. ⌜ (now (out .exit) ≡ put o (decimal v) (now (out .entry))) × (r ≡ o + length (decimal v)) ⌝ }
+{
+    let end = o + record::decimal_length(v);
+    let mut i = end;
+    let mut rest = v;
+    while 10 <= rest {
+        i -= 1;
+        out[i] = (48 + rest % 10) as u8;
+        rest = rest / 10;
+    }
+    out[o] = (48 + rest) as u8;
+    end
+}
+
+// Kinds.
+
+// An elementary kind, by its record's kind and body.
+fn write_elementary(k: usize, body: &[u8], out: &mut [u8], o: usize) -> usize
+    requires { ⌜ Room (elementaryFrom k (now body)) o (now out) ⌝ }
+    ensures { λ r. ⌜ Wrote (elementaryFrom k (now (body .entry))) o (now (out .entry)) (now (out .exit)) r ⌝ }
+{
+    match k {
+        1 => {
+            let p = write_int(out, o);
+            write_small(out, p, layout::get2(body, 0))
+        }
+        2 => {
+            let p = write_uint(out, o);
+            write_small(out, p, layout::get2(body, 0))
+        }
+        3 => write_address(out, o),
+        4 => write_bool(out, o),
+        5 => {
+            let p = write_bytes(out, o);
+            write_small(out, p, layout::get2(body, 0))
+        }
+        6 => write_function(out, o),
+        7 => write_bytes(out, o),
+        8 => write_string(out, o),
+        _ => o,
+    }
+}
+
+// A suffix, by its record's kind and body.
+fn write_suffix(k: usize, body: &[u8], out: &mut [u8], o: usize) -> usize
+    requires { ⌜ Room (suffixFrom k (now body)) o (now out) ⌝ }
+    ensures { λ r. ⌜ Wrote (suffixFrom k (now (body .entry))) o (now (out .entry)) (now (out .exit)) r ⌝ }
+{
+    match k {
+        10 => {
+            out[o] = 91;
+            let p = write_decimal(out, o + 1, record::get8(body));
+            out[p] = 93;
+            p + 1
+        }
+        _ => {
+            out[o] = 91;
+            out[o + 1] = 93;
+            o + 2
+        }
+    }
+}
+
+// The suffixes up to the end, innermost first.
+fn write_suffixes(b: &[u8], out: &mut [u8], o: usize) -> usize
+    requires { ⌜ Room (suffixesFrom (now b)) o (now out) ⌝ }
+    ensures { λ r. ⌜ Wrote (suffixesFrom (now (b .entry))) o (now (out .entry)) (now (out .exit)) r ⌝ }
+{
+    let mut at = 0;
+    let mut p = o;
+    while at < b.len() {
+        let t = &b[at..];
+        let l = layout::get4(t, 0);
+        p = write_suffix(layout::get2(t, 4), &t[6..l], out, p);
+        at += l;
+    }
+    p
+}
