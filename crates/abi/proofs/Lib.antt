@@ -1,3 +1,5 @@
 pub mod Stores
 pub mod Leaves
 pub mod Runs
+pub mod Nested
+pub mod Lists

@@ -6,7 +6,7 @@ ghost use Rattle.kinds.specs.Bytes.{ascii};
 ghost use Rattle.kinds.specs.Decimal.{decimal};
 ghost use Rattle.layout.specs.Buffer.{put};
 ghost use Rattle.record.specs.Texts.{elementaryFrom, suffixFrom, suffixesFrom};
-ghost use Rattle.abi.specs.Writes.{Room, Wrote, KindRoom, KindWrote, TupleRoom, TupleWrote};
+ghost use Rattle.abi.specs.Writes.{Room, Wrote, KindRoom, KindWrote, FieldRoom, FieldWrote, FieldsRoom, FieldsWrote};
 
 // Words, each written at o; the place behind it.
 
@@ -205,4 +205,56 @@ fn write_suffixes(b: &[u8], out: &mut [u8], o: usize) -> usize
         at += l;
     }
     p
+}
+
+// A base and its suffixes: "writing a kind goes down through its tuples".
+fn write_kind(t: &[u8], out: &mut [u8], o: usize) -> usize
+    requires { ⌜ KindRoom (now t) o (now out) ⌝ }
+    ensures { λ r. ⌜ KindWrote (now (t .entry)) o (now (out .entry)) (now (out .exit)) r ⌝ }
+{
+    let n = layout::get4(t, 0);
+    let k = layout::get2(t, 4);
+    match k {
+        9 => {
+            let p = write_fields(&t[6..n], out, o);
+            write_suffixes(&t[n..], out, p)
+        }
+        _ => {
+            let p = write_elementary(k, &t[6..n], out, o);
+            write_suffixes(&t[n..], out, p)
+        }
+    }
+}
+
+// The kind of a field, by its record's body.
+fn write_field(body: &[u8], out: &mut [u8], o: usize) -> usize
+    requires { ⌜ FieldRoom (now body) o (now out) ⌝ }
+    ensures { λ r. ⌜ FieldWrote (now (body .entry)) o (now (out .entry)) (now (out .exit)) r ⌝ }
+{
+    let q = 2 + layout::get4(body, 2);
+    write_kind(&body[q..], out, o)
+}
+
+// The kinds of the fields up to the end, in brackets: each with a comma before it, and a bracket in the place of the first.
+fn write_fields(b: &[u8], out: &mut [u8], o: usize) -> usize
+    requires { ⌜ FieldsRoom (now b) o (now out) ⌝ }
+    ensures { λ r. ⌜ FieldsWrote (now (b .entry)) o (now (out .entry)) (now (out .exit)) r ⌝ }
+{
+    let mut at = 0;
+    let mut p = o;
+    while at < b.len() {
+        let t = &b[at..];
+        let l = layout::get4(t, 0);
+        out[p] = 44;
+        p = write_field(&t[6..l], out, p + 1);
+        at += l;
+    }
+    if p == o {
+        out[o] = 40;
+        out[o + 1] = 41;
+        return o + 2;
+    }
+    out[p] = 41;
+    out[o] = 40;
+    p + 1
 }
