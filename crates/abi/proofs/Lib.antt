@@ -3,3 +3,5 @@ pub mod Leaves
 pub mod Runs
 pub mod Nested
 pub mod Lists
+pub mod Whole
+pub mod Calls

@@ -73,7 +73,7 @@ deeper zero k body u y e = absurd (Option·none-ne-some u (sym (base-deep zero k
 deeper (suc d) k body u y e = sym (base-tuple (suc d) k body y (λ z. absurd (omega arith))) ∙ e
 
 -- brackets take two bytes
-brackets-long : (fs : Fields) → 2 ≤ length (kindText (tuple (kindsOf fs)))
+pub brackets-long : (fs : Fields) → 2 ≤ length (kindText (tuple (kindsOf fs)))
 unfolding kindText kindsOf
 brackets-long noField = omega arith
 brackets-long (moreFields f fs) = omega (arith, kind-full (kindOf f), length-append (kindText (kindOf f)) (restText (kindsOf fs)))
