@@ -234,10 +234,11 @@ static uint8_t *allocate(size_t size)
 static struct bytes decoded(struct bytes hex)
 {
     size_t length = is(hex, "-") ? 0 : hex.length / 2;
-    uint8_t *block = allocate(length);
+    uint8_t *block;
 
-    if (hex.length == 0 || (length > 0 && hex.length % 2 != 0))
+    if (!is(hex, "-") && (hex.length == 0 || hex.length % 2 != 0))
         fail("replay: bytes are not in pairs of digits");
+    block = allocate(length);
     for (size_t i = 0; i < length; i++)
         block[i] = (uint8_t)(digit_of(hex.at[2 * i]) << 4 | digit_of(hex.at[2 * i + 1]));
     return (struct bytes){block, length};
@@ -324,7 +325,7 @@ static bool keep(struct corpus *corpus, struct bytes bytes)
 static void time_call(const char *name, call *run, const struct corpus *corpus)
 {
     static uint8_t out[ROOM_MAX];
-    double started = seconds(), best = 0, total = 0;
+    double started = seconds(), best = 1e9, total = 0;
     size_t value;
 
     if (corpus->count == 0)
@@ -337,7 +338,7 @@ static void time_call(const char *name, call *run, const struct corpus *corpus)
         for (size_t i = 0; i < corpus->count; i++)
             run(corpus->kept[i].at, corpus->kept[i].length, out, sizeof out, &value);
         took = seconds() - before;
-        if (best == 0 || took < best)
+        if (took < best)
             best = took;
     } while (seconds() - started < 1);
     printf("%s: %zu inputs of %.0f bytes on average, %.0f ns each\n", name, corpus->count, total / (double)corpus->count,
