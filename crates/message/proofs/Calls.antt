@@ -107,16 +107,16 @@ some-text : (o : Option (List ℕ)) → (length (orEmpty o) ≡ 0 → ⊥) → o
 some-text none h = absurd (h refl)
 some-text (some u) h = refl
 
-module _ (c : Call) (s : List ℕ) (w : Refusal) (p : ℕ) (b l l₁ : List ℕ) (k : Sought) (n : ℕ) (e : soughtOf k ≡ wanted c s) (i : Put 27 0 (orEmpty (wording w (soughtOf k))) l l₁ n) where
-  pub display-none : n ≡ 0 → Ends (display c s w p) b b (Accepted 0)
+module _ (c : Call) (s : List ℕ) (w : Refusal) (p : ℕ) (l l₁ : List ℕ) (k : Sought) (n : ℕ) (e : soughtOf k ≡ wanted c s) (i : Put 27 0 (orEmpty (wording w (soughtOf k))) l l₁ n) where
+  pub display-none : (b : List ℕ) → n ≡ 0 → Ends (display c s w p) b b (Accepted 0)
   unfolding display
-  display-none h =
+  display-none b h =
       let none-there : wording w (wanted c s) ≡ none = wording-none w (wanted c s) (rw (← e) (omega (arith, put-size _ _ _ _ _ i))) in
       nothing (display c s w p) b (rw none-there)
 
-  pub display-some : (l₂ b₁ : List ℕ) (m : ℕ) (x : Answer) → (n ≡ 0 → ⊥) → Put 199 n (placed s p) l₁ l₂ m → said x ≡ outcome (length b) (writes (take m l₂)) → b₁ ≡ after b (writes (take m l₂)) → Ends (display c s w p) b b₁ x
+  pub display-some : (l₂ b b₁ : List ℕ) (m : ℕ) (x : Answer) → (n ≡ 0 → ⊥) → Put 199 n (placed s p) l₁ l₂ m → said x ≡ outcome (length b) (writes (take m l₂)) → b₁ ≡ after b (writes (take m l₂)) → Ends (display c s w p) b b₁ x
   unfolding display messageText placed
-  display-some l₂ b₁ m x h j f g =
+  display-some l₂ b b₁ m x h j f g =
       let there : wording w (wanted c s) ≡ some (orEmpty (wording w (soughtOf k)))
       = ap (wording w) (sym e) ∙ some-text (wording w (soughtOf k)) (λ z. h (put-size _ _ _ _ _ i ∙ z)) in
       let line : take m l₂ ≡ messageText s p (orEmpty (wording w (soughtOf k)))

@@ -1,3 +1,6 @@
+use Rattle.message.proofs.Calls.{display-none, display-some, display-inside}
+use lib.Seq.{length-take-le}
+use mathlib.Core.Path.{_≡_, refl, sym, _∙_, ap}
 use borrow.Author.Needs.{needs}
 use Rattle.message.proofs.display.Statement.{statement}
 use Rattle.message.proofs.display.Tie as tie
@@ -22,7 +25,7 @@ wording-requires c κs = search needs
 
 -- src/lib.rt:370:9
 returns : tie.Need-returns
-returns c = ?
+returns c = display-none _ _ _ _ _ _ _ _ (c .before .before .before .before .wanted .ensures) (c .before .before .wording .ensures) _ (c .if1 .taken)
 
 -- src/lib.rt:372:19
 slice-aggregate-place : tie.Need-slice-aggregate-place
@@ -38,7 +41,7 @@ array-share-prefix-line c = search needs
 
 -- src/lib.rt:373:17
 slice-aggregate-answer : tie.Need-slice-aggregate-answer
-slice-aggregate-answer c = ?
+slice-aggregate-answer c = sym (length-take-le _ _ (display-inside _ _ _ _ _ _ _ _ (c .before .before .before .before .before .before .before .before .before .wanted .ensures) (c .before .before .before .before .before .before .before .wording .ensures) _ _ (c .before .before .before .place .ensures)))
 
 -- src/lib.rt:373:5
 answer-requires : tie.Need-answer-requires
@@ -50,7 +53,7 @@ same-length c = search needs
 
 -- src/lib.rt:362:1
 returns-2 : tie.Need-returns-2
-returns-2 c = ?
+returns-2 c = display-some _ _ _ _ _ _ _ _ (c .before .before .before .before .before .before .before .before .before .before .before .before .wanted .ensures) (c .before .before .before .before .before .before .before .before .before .before .wording .ensures) _ _ _ _ _ (c .before .before .before .before .before .before .before .before .if1 .left) (c .before .before .before .before .before .before .place .ensures) (c .before .before .answer .ensures .0) (c .before .before .answer .ensures .1)
 
 pub display-spec : {M : Type 1} → statement M
 display-spec =

@@ -1,3 +1,4 @@
+use Rattle.message.proofs.Calls.{message-accepted, message-refused}
 use borrow.Author.Needs.{needs}
 use Rattle.message.proofs.message.Statement.{statement}
 use Rattle.message.proofs.message.Tie as tie
@@ -24,7 +25,7 @@ display-requires c κs = search needs
 
 -- src/lib.rt:391:1
 returns : tie.Need-returns
-returns c = ?
+returns c = message-accepted _ _ _ _ (c .before .before .read .ensures) _ (c .enum-told .given .1)
 
 -- src/lib.rt:391:1
 same-length : tie.Need-same-length
@@ -32,7 +33,7 @@ same-length c = search needs
 
 -- src/lib.rt:391:1
 returns-2 : tie.Need-returns-2
-returns-2 c = ?
+returns-2 c = message-refused _ _ _ _ (c .before .before .before .before .before .before .before .read .ensures) _ _ _ _ (c .before .before .before .before .before .r .given .1) (c .before .before .display .ensures .0) (c .before .before .display .ensures .1)
 
 pub message-spec : {M : Type 1} → statement M
 message-spec =

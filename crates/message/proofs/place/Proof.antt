@@ -1,3 +1,10 @@
+use Rattle.message.proofs.Contexts.{placed-all}
+use Rattle.message.proofs.Writing.{put-inside}
+use Rattle.kinds.proofs.Decimal.{decimal-short}
+use lib.Seq.{length-take-le}
+use lib.ListN.{length-take}
+use mathlib.Core.Path.{_≡_, refl, sym, _∙_, ap}
+use native.Mathlib.Omega.{arith}
 use borrow.Author.Needs.{needs}
 use Rattle.message.proofs.place.Statement.{statement}
 use Rattle.message.proofs.place.Tie as tie
@@ -26,7 +33,7 @@ write-str-requires c κs = search needs
 
 -- src/lib.rt:246:9
 decimal-requires : tie.Need-decimal-requires
-decimal-requires c κs = ?
+decimal-requires c κs = omega (arith, decimal-short 20 (c .before .before .before .before .before .before .before .before .before .before .before .args .p) (omega arith) (omega arith))
 
 -- src/lib.rt:247:20
 array-share-prefix-context : tie.Need-array-share-prefix-context
@@ -34,11 +41,11 @@ array-share-prefix-context c = search needs
 
 -- src/lib.rt:247:20
 slice-aggregate-quoted : tie.Need-slice-aggregate-quoted
-slice-aggregate-quoted c = ?
+slice-aggregate-quoted c = sym (length-take-le _ _ (put-inside _ _ _ _ _ (c .before .before .before .before .before .before .before .before .before .before .before .before .with-context .ensures)))
 
 -- src/lib.rt:247:5
 quoted-requires : tie.Need-quoted-requires
-quoted-requires c κs = ?
+quoted-requires c κs = simp length-take (omega (arith, decimal-short 20 (c .before .before .before .before .before .before .before .before .before .before .before .before .before .before .before .before .args .p) (omega arith) (omega arith), c .before .before .before .before .before .before .before .before .before .before .before .before .with-context .ensures .high, c .before .before .before .before .decimal .ensures .high))
 
 -- src/lib.rt:239:1
 same-length : tie.Need-same-length
@@ -46,7 +53,7 @@ same-length c = search needs
 
 -- src/lib.rt:239:1
 returns : tie.Need-returns
-returns c = ?
+returns c = placed-all _ _ _ _ _ _ _ _ _ _ _ _ _ (omega arith) (c .before .before .before .before .before .before .before .before .before .before .before .before .before .before .before .with-context .ensures) (c .before .before .before .before .before .before .before .before .before .before .before .write-str .ensures) (c .before .before .before .before .before .before .before .decimal .ensures) (c .before .before .quoted .ensures)
 
 pub place-spec : {M : Type 1} → statement M
 place-spec =

@@ -1,3 +1,7 @@
+use Rattle.message.proofs.Writing.{put-then}
+use lib.ListN.{length}
+use Prim.Native.Nat.{_+_, _*_}
+use native.Mathlib.Omega.{arith}
 use borrow.Author.Needs.{needs}
 use Rattle.message.proofs.quoted.Statement.{statement}
 use Rattle.message.proofs.quoted.Tie as tie
@@ -32,7 +36,7 @@ same-length c = search needs
 
 -- src/lib.rt:229:1
 returns : tie.Need-returns
-returns c = ?
+returns c = put-then _ _ _ 2 (6 * length (c .before .before .before .before .before .before .before .before .before .before .before .before .before .before .before .before .args .t .now) + 2) _ _ _ _ _ _ (omega arith) (c .before .before .before .before .before .before .before .before .before .before .before .write-str .ensures) (put-then _ _ _ (6 * length (c .before .before .before .before .before .before .before .before .before .before .before .before .before .before .before .before .args .t .now)) 2 _ _ _ _ _ _ (omega arith) (c .before .before .before .before .before .before .before .escaped .ensures) (c .before .before .write-str2 .ensures))
 
 pub quoted-spec : {M : Type 1} → statement M
 quoted-spec =
