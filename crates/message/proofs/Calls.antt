@@ -2,13 +2,12 @@
 -- Assumes nothing.
 use mathlib.Core.Path.{_≡_, refl, sym, _∙_, ap}
 use mathlib.Core.Bool.{Bool, true, false}
-use mathlib.Core.List.{List, [], _∷_, _++_, append-assoc}
+use mathlib.Core.List.{List, [], _∷_}
 use mathlib.Core.Option.{Option, none, some}
-use Prim.Native.Nat.{ℕ, _+_, _≤_, _<_}
+use Prim.Native.Nat.{ℕ, _+_, _≤_}
 use native.Mathlib.Omega.{arith}
-use lib.Dec.{ltb, eqb}
+use lib.Dec.{ltb}
 use lib.ListN.{length, take}
-use Rattle.kinds.specs.Bytes.{ascii}
 use Rattle.model.specs.declared.Refusal.{Refusal}
 use Rattle.model.specs.declared.Refusal.the-variants.{Eos, ExpectOpen, ExpectClose, ExpectDeclaration, ExpectKeyword, ExpectIdentifier, ExpectEnd, TooLong, NotUtf8, TooDeep, InvalidBitWidth, InvalidByteLength, Unknown, StartsWithTuple, NotWellFormed, WrongSort, NoRoom}
 use Rattle.model.specs.declared.Keyword.{Keyword}
@@ -19,12 +18,11 @@ use Rattle.model.specs.declared.Answer.the-variants.{Accepted, Refused}
 use Rattle.model.specs.Tree.{Declaration}
 use Rattle.model.specs.Parser.{Ans, got, bad, deep}
 use Rattle.model.specs.Reading.{wanted, parse}
-use Rattle.model.specs.Record.{Case, case, select, encode}
-use Rattle.model.specs.Answer.{Output, writes, refuses, Outcome, accepted, refused, number, said, outcome, after}
+use Rattle.model.specs.Record.{case, select, encode}
+use Rattle.model.specs.Answer.{Output, writes, accepted, refused, number, said, outcome, after}
 use Rattle.model.specs.Calls.{written, readOutput}
 use Rattle.model.specs.Message.{wording, messageText, messageBy, messageOf, messageOutput}
-use Rattle.layout.specs.Buffer.{put}
-use Rattle.layout.proofs.Answers.{Ends, ends-full, ends-written}
+use Rattle.layout.proofs.Answers.{Ends, ends-written}
 use Rattle.message.specs.declared.Sought.{Sought}
 use Rattle.message.specs.Lines.{Put, soughtOf, orEmpty, placed, display}
 use Rattle.message.proofs.Writing.{put-empty, put-then, put-size, put-front, put-inside}

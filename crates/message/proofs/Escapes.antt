@@ -1,19 +1,16 @@
 -- Escapes written.
 -- Assumes nothing.
 use mathlib.Core.Path.{_≡_, refl, sym, _∙_, ap}
-use mathlib.Core.Bool.{Bool, true, false, _||_}
 use mathlib.Core.List.{List, [], _∷_, _++_, append-nil, append-assoc}
-use Prim.Native.Nat.{ℕ, zero, suc, _+_, _*_, _-_, _/_, _%_, _≤_, _<_}
+use Prim.Native.Nat.{ℕ, _+_, _*_, _-_, _/_, _%_, _≤_, _<_}
 use native.Mathlib.Omega.{arith}
 use native.Mathlib.Numerals.{add-one}
-use lib.Dec.{ltb, eqb}
-use lib.ListN.{length, take, getD, length-append}
+use lib.ListN.{length, take, getD}
 use lib.Seq.{take-suc, take-all}
-use borrow.Author.Tests.{lt-ltb, le-ltb, eq-eqb, ne-eqb}
+use borrow.Author.Tests.{lt-ltb, le-ltb, ne-eqb}
 use Rattle.kinds.specs.Bytes.{ascii}
 use Rattle.model.specs.Record.{Case, case, select}
 use Rattle.model.specs.Message.{hexDigit, hex, unicode, escapes, escape, escaped}
-use Rattle.layout.proofs.Writes.{wrote-none}
 use Rattle.message.specs.Lines.{Put}
 use Rattle.message.proofs.Writing.{put-none, put-as, put-then}
 

@@ -1,10 +1,10 @@
 -- The keyword that is wanted, and the wordings.
 -- Assumes nothing.
-use mathlib.Core.Path.{_≡_, refl, sym, _∙_, ap}
+use mathlib.Core.Path.{_≡_, refl, _∙_}
 use mathlib.Core.Bool.{Bool, true, false}
-use mathlib.Core.List.{List, [], _∷_, _++_}
+use mathlib.Core.List.{List, [], _++_}
 use mathlib.Core.Option.{Option, none, some}
-use Prim.Native.Nat.{ℕ, _+_, _≤_, _<_}
+use Prim.Native.Nat.{ℕ, _+_, _≤_}
 use native.Mathlib.Omega.{arith}
 use lib.ListN.{length}
 use Rattle.kinds.specs.Bytes.{ascii}
@@ -20,7 +20,7 @@ use Rattle.model.specs.Message.{expected, wording}
 use Rattle.message.specs.declared.Sought.{Sought}
 use Rattle.message.specs.declared.Sought.the-variants.{Word, Nothing}
 use Rattle.message.specs.Lines.{Put, soughtOf, orEmpty}
-use Rattle.message.proofs.Writing.{put-none, put-as, put-then}
+use Rattle.message.proofs.Writing.{put-none, put-as}
 
 -- the general call, where t₁ to t₄ are the code's tests
 module _ (s : List ℕ) (t₁ : Bool) (e₁ : t₁ ≡ starts (ascii "function") s) where

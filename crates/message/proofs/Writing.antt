@@ -1,15 +1,15 @@
 -- Bytes written one behind the other: laws of `Put`.
 -- Assumes nothing.
-use mathlib.Core.Path.{_≡_, refl, sym, _∙_, ap}
+use mathlib.Core.Path.{_≡_, refl, _∙_, ap}
 use mathlib.Core.List.{List, [], _∷_, _++_, append-assoc}
 use Prim.Native.Nat.{ℕ, _+_, _≤_, _<_, _/_, _%_}
 use native.Mathlib.Omega.{arith}
 use native.Mathlib.Nat.{zero-add}
 use lib.ListN.{length, take, drop, set, length-append, length-take}
-use lib.Seq.{sets, sets-eq}
+use lib.Seq.{sets-eq}
 use Rattle.kinds.specs.Decimal.{decimal}
 use Rattle.kinds.proofs.Decimal.{decimal-one, decimal-more}
-use Rattle.layout.specs.Buffer.{put, Wrote}
+use Rattle.layout.specs.Buffer.{put}
 use Rattle.layout.proofs.Writes.{wrote-none, wrote-put, wrote-then}
 use Rattle.message.specs.Lines.{Put}
 
@@ -64,13 +64,13 @@ module _ (o v : ℕ) (b : List ℕ) where
       let l = length-append (decimal (v / 10)) ((48 + v % 10) ∷ []) in
       rw (decimal-more v h) (put-then o b b₁ (length (decimal (v / 10))) 1 _ (decimal (v / 10)) ((48 + v % 10) ∷ []) b₂ p r (omega (arith, l)) i j)
 
-  -- room for what stands before the last digit
-  pub decimal-room : 10 ≤ v → length (decimal v) ≡ length (decimal (v / 10)) + 1
-  decimal-room h = rw (decimal-more v h) (length-append (decimal (v / 10)) ((48 + v % 10) ∷ []))
+-- their lengths
+pub length-last : (v : ℕ) → v < 10 → length (decimal v) ≡ 1
+length-last v h = rw (decimal-one v h)
 
-  pub decimal-one-room : v < 10 → length (decimal v) ≡ 1
-  decimal-one-room h = rw (decimal-one v h)
+pub length-next : (v : ℕ) → 10 ≤ v → length (decimal v) ≡ length (decimal (v / 10)) + 1
+length-next v h = rw (decimal-more v h) (length-append (decimal (v / 10)) ((48 + v % 10) ∷ []))
 
-pub ruleset putting = (put-none, put-str, put-byte)
+pub ruleset putting = (put-str, put-byte)
 
-pub ruleset decimals = (decimal-last, decimal-next, decimal-room, decimal-one-room)
+pub ruleset decimals = (decimal-last, decimal-next)

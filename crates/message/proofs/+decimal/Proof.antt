@@ -1,5 +1,4 @@
-use Rattle.message.proofs.Writing.{decimal-room, decimal-one-room}
-use mathlib.Core.List.{[]}
+use Rattle.message.proofs.Writing.{length-last, length-next}
 use native.Mathlib.Omega.{arith}
 use borrow.Author.Needs.{needs}
 use Rattle.message.proofs.Writing.{decimals}
@@ -32,7 +31,7 @@ decimal-cast-write-byte t c = search (needs, decimals)
 
 -- src/lib.rt:44:9
 decimal-write-byte-requires : (t : ℕ) → decimal-lts.Need-write-byte-requires (write-byte-reads.Asked, write-byte-reads.Learnt, decimal-below t, decimal.Post) (decimal-at t) decimal.Post
-decimal-write-byte-requires t c κs = omega (arith, decimal-one-room (c .before .before .before .args .o) (c .before .before .before .args .v) [] (c .before .if1 .taken))
+decimal-write-byte-requires t c κs = omega (arith, length-last (c .before .before .before .args .v) (c .before .if1 .taken))
 
 -- src/lib.rt:44:9
 decimal-same-length : (t : ℕ) → decimal-lts.Need-same-length (write-byte-reads.Asked, write-byte-reads.Learnt, decimal-below t, decimal.Post) (decimal-at t) decimal.Post
@@ -44,7 +43,7 @@ decimal-returns t c = search (needs, decimals)
 
 -- src/lib.rt:46:9
 decimal-decimal-requires : (t : ℕ) → decimal-lts.Need-decimal-requires (write-byte-reads.Asked, write-byte-reads.Learnt, decimal-below t, decimal.Post) (decimal-at t) decimal.Post
-decimal-decimal-requires t c κs = (omega arith, omega (arith, decimal-room (c .before .before .before .args .o) (c .before .before .before .args .v) [] (c .before .if1 .left)))
+decimal-decimal-requires t c κs = (omega arith, omega (arith, length-next (c .before .before .before .args .v) (c .before .if1 .left)))
 
 -- src/lib.rt:47:25
 decimal-add-write-byte-2 : (t : ℕ) → decimal-lts.Need-add-write-byte-2 (write-byte-reads.Asked, write-byte-reads.Learnt, decimal-below t, decimal.Post) (decimal-at t) decimal.Post
@@ -56,7 +55,7 @@ decimal-cast-write-byte-2 t c = search (needs, decimals)
 
 -- src/lib.rt:47:5
 decimal-write-byte-requires-2 : (t : ℕ) → decimal-lts.Need-write-byte-requires-2 (write-byte-reads.Asked, write-byte-reads.Learnt, decimal-below t, decimal.Post) (decimal-at t) decimal.Post
-decimal-write-byte-requires-2 t c κs = omega (arith, decimal-room (c .before .before .before .before .before .before .before .args .o) (c .before .before .before .before .before .before .before .args .v) [] (c .before .before .before .before .before .if1 .left), c .before .before .before .decimal .ensures .high)
+decimal-write-byte-requires-2 t c κs = omega (arith, length-next (c .before .before .before .before .before .before .before .args .v) (c .before .before .before .before .before .if1 .left), c .before .before .before .decimal .ensures .high)
 
 -- src/lib.rt:39:1
 decimal-same-length-2 : (t : ℕ) → decimal-lts.Need-same-length-2 (write-byte-reads.Asked, write-byte-reads.Learnt, decimal-below t, decimal.Post) (decimal-at t) decimal.Post

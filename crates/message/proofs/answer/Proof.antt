@@ -1,5 +1,5 @@
 use Rattle.layout.proofs.Answers.{ends-full, ends-written}
-use mathlib.Core.Path.{_≡_, refl, sym, _∙_, ap}
+use mathlib.Core.Path.{refl}
 use borrow.Author.Needs.{needs}
 use Rattle.message.proofs.answer.Statement.{statement}
 use Rattle.message.proofs.answer.Tie as tie

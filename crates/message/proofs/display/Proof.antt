@@ -1,6 +1,6 @@
 use Rattle.message.proofs.Calls.{display-none, display-some, display-inside}
 use lib.Seq.{length-take-le}
-use mathlib.Core.Path.{_≡_, refl, sym, _∙_, ap}
+use mathlib.Core.Path.{sym}
 use borrow.Author.Needs.{needs}
 use Rattle.message.proofs.display.Statement.{statement}
 use Rattle.message.proofs.display.Tie as tie

@@ -1,5 +1,5 @@
 use Rattle.message.proofs.Escapes.{escape-two, escape-other}
-use mathlib.Core.Path.{_≡_, refl, sym, _∙_, ap}
+use mathlib.Core.Path.{refl}
 use borrow.Author.Needs.{needs}
 use Rattle.message.proofs.escape.Statement.{statement}
 use Rattle.message.proofs.escape.Tie as tie

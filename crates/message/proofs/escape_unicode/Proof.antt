@@ -1,5 +1,5 @@
 use Rattle.message.proofs.Writing.{put-as, put-then}
-use mathlib.Core.Path.{_≡_, refl, sym, _∙_, ap}
+use mathlib.Core.Path.{refl}
 use native.Mathlib.Omega.{arith}
 use borrow.Author.Needs.{needs}
 use Rattle.message.proofs.escape_unicode.Statement.{statement}

@@ -3,7 +3,7 @@ use Rattle.message.proofs.Writing.{put-inside}
 use Rattle.kinds.proofs.Decimal.{decimal-short}
 use lib.Seq.{length-take-le}
 use lib.ListN.{length-take}
-use mathlib.Core.Path.{_≡_, refl, sym, _∙_, ap}
+use mathlib.Core.Path.{sym}
 use native.Mathlib.Omega.{arith}
 use borrow.Author.Needs.{needs}
 use Rattle.message.proofs.place.Statement.{statement}

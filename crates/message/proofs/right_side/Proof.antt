@@ -1,7 +1,7 @@
 use Rattle.message.proofs.Contexts.{side-long, right-whole}
 use lib.Seq.{length-take-le}
 use lib.ListN.{length-take}
-use mathlib.Core.Path.{_≡_, refl, sym, _∙_, ap}
+use mathlib.Core.Path.{sym}
 use native.Mathlib.Omega.{arith}
 use borrow.Author.Needs.{needs}
 use Rattle.message.proofs.right_side.Statement.{statement}
