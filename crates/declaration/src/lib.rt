@@ -369,13 +369,22 @@ fn via(text: &[u8], k: Keyword, scratch: &mut [u8], record: &mut [u8]) -> Answer
     }
 }
 
-// Four sizes of scratch, since an array is filled with zeros at each call: 10 bytes for each byte of text and for each tuple that may be open.
+// Five sizes of scratch, since an array is filled with zeros at each call: 10 bytes for each byte of text and for each tuple that may be open.
 fn tiny(text: &[u8], k: Keyword, record: &mut [u8]) -> Answer
     requires { ⌜ length (now text) ≤ 64 ⌝ }
     ensures says { λ r. ⌜ said r ≡ outcome (length (now («record» .entry))) (execOutput k (now (text .entry))) ⌝ }
     ensures left { λ _. ⌜ now («record» .exit) ≡ after (now («record» .entry)) (execOutput k (now (text .entry))) ⌝ }
 {
     let mut scratch = [0u8; 960];
+    via(text, k, &mut scratch, record)
+}
+
+fn little(text: &[u8], k: Keyword, record: &mut [u8]) -> Answer
+    requires { ⌜ length (now text) ≤ 128 ⌝ }
+    ensures says { λ r. ⌜ said r ≡ outcome (length (now («record» .entry))) (execOutput k (now (text .entry))) ⌝ }
+    ensures left { λ _. ⌜ now («record» .exit) ≡ after (now («record» .entry)) (execOutput k (now (text .entry))) ⌝ }
+{
+    let mut scratch = [0u8; 1600];
     via(text, k, &mut scratch, record)
 }
 
@@ -406,21 +415,41 @@ fn large(text: &[u8], k: Keyword, record: &mut [u8]) -> Answer
     via(text, k, &mut scratch, record)
 }
 
-fn by_size(text: &[u8], k: Keyword, record: &mut [u8]) -> Answer
-    requires { ⌜ length (now text) ≤ 4096 ⌝ }
+// The short sizes apart from the long ones, so that a short text's call has a short stack.
+fn short(text: &[u8], k: Keyword, record: &mut [u8]) -> Answer
+    requires { ⌜ length (now text) ≤ 256 ⌝ }
     ensures says { λ r. ⌜ said r ≡ outcome (length (now («record» .entry))) (execOutput k (now (text .entry))) ⌝ }
     ensures left { λ _. ⌜ now («record» .exit) ≡ after (now («record» .entry)) (execOutput k (now (text .entry))) ⌝ }
 {
     if text.len() <= 64 {
         return tiny(text, k, record);
     }
-    if text.len() <= 256 {
-        return small(text, k, record);
+    if text.len() <= 128 {
+        return little(text, k, record);
     }
+    small(text, k, record)
+}
+
+fn long(text: &[u8], k: Keyword, record: &mut [u8]) -> Answer
+    requires { ⌜ length (now text) ≤ 4096 ⌝ }
+    ensures says { λ r. ⌜ said r ≡ outcome (length (now («record» .entry))) (execOutput k (now (text .entry))) ⌝ }
+    ensures left { λ _. ⌜ now («record» .exit) ≡ after (now («record» .entry)) (execOutput k (now (text .entry))) ⌝ }
+{
     if text.len() <= 1024 {
         return mid(text, k, record);
     }
     large(text, k, record)
+}
+
+fn by_size(text: &[u8], k: Keyword, record: &mut [u8]) -> Answer
+    requires { ⌜ length (now text) ≤ 4096 ⌝ }
+    ensures says { λ r. ⌜ said r ≡ outcome (length (now («record» .entry))) (execOutput k (now (text .entry))) ⌝ }
+    ensures left { λ _. ⌜ now («record» .exit) ≡ after (now («record» .entry)) (execOutput k (now (text .entry))) ⌝ }
+{
+    if text.len() <= 256 {
+        return short(text, k, record);
+    }
+    long(text, k, record)
 }
 
 // Whether a text is read at all.

@@ -5,6 +5,7 @@ use mathlib.Core.Bool.{Bool, true, false}
 use mathlib.Core.List.{List, [], _∷_, _++_, append-assoc, append-nil}
 use Prim.Native.Nat.{ℕ, zero, suc, _+_, _*_, _-_, _≤_, _<_}
 use native.Mathlib.Omega.{arith}
+use native.Mathlib.Nat.{zero-add}
 use native.Mathlib.Numerals.{sub-one}
 use lib.Dec.{eqb}
 use lib.ListN.{length, length-append}
@@ -28,7 +29,7 @@ use Rattle.fields.specs.declared.Item.{Item}
 use Rattle.fields.specs.declared.Item.the-variants as item
 use Rattle.fields.specs.Words.{Looked}
 use Rattle.fields.specs.Scratch.{toRead, bytesOf, Within, Closes, Room, Grows, behindKind, leafOf, Put, kindBytes, NamedRoom, NamedPut, Short, longerBy, fieldOf, tupleOf, listOf, restOf, IsMore, IsLast, ItemIs}
-use Rattle.fields.proofs.Ends.{seen, unseen, look-found, look-missing}
+use Rattle.fields.proofs.Ends.{seen, unseen, look-found, look-missing, close-here}
 
 -- an answer, by what the code has of it
 pub is-got : (a : Ans (List ℕ)) (n l : ℕ) → Got n l ≡ toRead a → (a ≡ got (bytesOf a) n) × (l ≡ length (bytesOf a))
@@ -328,6 +329,9 @@ module _ (s : List ℕ) (sort : Sort) (d from end o : ℕ) (b₀ b₁ : List ℕ
                 (put-closing s n (o + l) b₁ b₁ [] r y c) (omega (arith, item-paid)) (omega (arith, item-paid)));
           }
 
+      pub item-closed : b ≡ 41 → IsLast s sort d from end o b₀ b₁ (Got (p + 1) l)
+      item-closed g = item-last (Got (p + 1) 0) (Got (p + 1) l) (λ z. omega arith) (close-here s n p b v g) (ap (Got (p + 1)) (sym (zero-add l)))
+
   pub item-none : (w : Refusal) (p : ℕ) (r : Read) → f ≡ Bad w p → Closes s end r → IsLast s sort d from end o b₀ b₁ r
   item-none w p r e c = record {
     a = onAns (encodeFields 4) (closing s end);
@@ -413,6 +417,11 @@ module _ (s : List ℕ) (sort : Sort) (d at o : ℕ) (b₀ : List ℕ) (from end
     pub so-fits : len + l < 18446744073709551616
     so-fits = omega (arith, g .room, g .short, more .paid, more .low, more .inside, g .small)
 
+  ended : (r q : Read) → IsLast s sort d from end (o + len) b₁ b₂ r → q ≡ longerBy len r → Put 10 s at o b₀ b₂ (listOf sort d s at) q
+  ended r q z x =
+      rw (x, g .whole, z .step (g .fuel))
+      (then-put s at end o (o + len) len b₀ b₁ b₂ (g .u) r (z .a) (g .wrote) (omega (arith, g .size)) (g .size) (z .put) (g .first) (g .paid))
+
   module _ (r : Read) (e : i ≡ item.Last r) where
     last : IsLast s sort d from end (o + len) b₁ b₂ r
     last = rw e at j
@@ -421,8 +430,16 @@ module _ (s : List ℕ) (sort : Sort) (d at o : ℕ) (b₀ : List ℕ) (from end
     so-short = short s end len r (last .put .within) (g .small) (omega (arith, g .room, g .short))
 
     pub so-last : (q : Read) → q ≡ longerBy len r → Put 10 s at o b₀ b₂ (listOf sort d s at) q
-    so-last q x =
-        rw (x, g .whole, last .step (g .fuel))
-        (then-put s at end o (o + len) len b₀ b₁ b₂ (g .u) r (last .a) (g .wrote) (omega (arith, g .size)) (g .size) (last .put) (g .first) (g .paid))
+    so-last q x = ended r q last x
 
-pub ruleset family = (field-leaf, named-room, field-named, field-bad, field-deep, tuple-none, tuple-bad, tuple-deep, tuple-room, suffix-room, tuple-got, item-more, item-last, item-none, item-deep, so-start, so-more, so-less, so-fits, so-short, so-last)
+  module _ (n l : ℕ) (e : i ≡ item.Closed n l) where
+    closed : IsLast s sort d from end (o + len) b₁ b₂ (Got n l)
+    closed = rw e at j
+
+    pub so-closed-fits : len + l < 18446744073709551616
+    so-closed-fits = let z : l + len < 18446744073709551616 = short s end len (Got n l) (closed .put .within) (g .small) (omega (arith, g .room, g .short)) in omega arith
+
+    pub so-closed : Put 10 s at o b₀ b₂ (listOf sort d s at) (Got n (len + l))
+    so-closed = ended (Got n l) (Got n (len + l)) closed (ap (Got n) (omega arith))
+
+pub ruleset family = (so-closed-fits, so-closed, item-closed, field-leaf, named-room, field-named, field-bad, field-deep, tuple-none, tuple-bad, tuple-deep, tuple-room, suffix-room, tuple-got, item-more, item-last, item-none, item-deep, so-start, so-more, so-less, so-fits, so-short, so-last)

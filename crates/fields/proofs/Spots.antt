@@ -4,12 +4,12 @@ use mathlib.Core.Path.{_≡_, refl, sym, _∙_, ap, subst}
 use mathlib.Core.Bool.{Bool, true, false}
 use mathlib.Core.List.{List, [], _∷_}
 use mathlib.Core.Option.{Option, none, some}
-use Prim.Native.Nat.{ℕ, _+_, _*_, _-_, _≤_, _<_}
+use Prim.Native.Nat.{ℕ, suc, _+_, _*_, _-_, _≤_, _<_}
 use native.Mathlib.Omega.{arith}
 use native.Mathlib.Decide.{decLt, ℕ-discrete}
 use lib.Dec.{eqb}
-use lib.ListN.{length, take, drop, length-take, length-drop}
-use lib.Seq.{length-take-le}
+use lib.ListN.{length, take, drop, getD, length-take, length-drop}
+use lib.Seq.{length-take-le, drop-cons}
 use borrow.Author.Tests.{eq-eqb, ne-eqb}
 use Rattle.kinds.specs.Bytes.{ascii, same}
 use Rattle.model.specs.declared.Sort.{Sort}
@@ -19,8 +19,9 @@ use Rattle.model.specs.Tree.{unmarked, indexed}
 use Rattle.model.specs.KindText.{Entry, entry, lookup}
 use Rattle.model.specs.Parser.{Ans, got, Found, found, missing, orElse, word, wordEnd, foundBy, keywordOf, isIdent, lookIdent, option, optionalName}
 use Rattle.model.specs.Reading.{locations}
-use Rattle.model.proofs.Scans.{part-rest, peek-end}
+use Rattle.model.proofs.Scans.{part-rest, peek-byte, peek-end}
 use Rattle.text.specs.Found.{Skipped}
+use Rattle.text.proofs.Skipping.{skipped-none}
 use Rattle.fields.specs.declared.Named.{Named}
 use Rattle.fields.specs.Words.{WordIs, Looked, marksBy, orNone, markOf, locationOf, nameAt, NamedIs}
 
@@ -45,6 +46,9 @@ peek-edge s p b e = elim (decLt p (length s)) [ yes h ↦ omega arith | no h ↦
 
 pub looked : (s : List ℕ) (at p b : ℕ) → Skipped s at p → b ≡ peek s p → Looked s at p b
 looked s at p b k e = record { place = k .place; byte = e; low = k .low; inside = k .inside; edge = peek-edge s p b e }
+
+pub looked-here : (s : List ℕ) (at : ℕ) → at < length s → 32 < getD s at 0 → getD s at 0 < 128 → Looked s at at (getD s at 0)
+looked-here s at h k l = looked s at at (getD s at 0) (skipped-none s at h k l) (sym (peek-byte s at (getD s at 0) (drop (suc at) s) (drop-cons s at 0 h)))
 
 -- marks, where r is the code's test
 module _ (w : List ℕ) where
@@ -225,4 +229,4 @@ module _ (s : List ℕ) (at : ℕ) (sort : Sort) (l : Bool) (a e m : ℕ) (h : a
         part = n .part;
       }
 
-pub ruleset spots = (word-is, looked, calldata-is, memory-is, no-location, mark-plain, mark-located, mark-unlocated, mark-indexed, mark-unindexed, name-none, name-some, named-unmarked, named-marked)
+pub ruleset spots = (word-is, looked, looked-here, calldata-is, memory-is, no-location, mark-plain, mark-located, mark-unlocated, mark-indexed, mark-unindexed, name-none, name-some, named-unmarked, named-marked)

@@ -183,4 +183,5 @@ pub record IsLast (s : List ℕ) (sort : Sort) (d from end o : ℕ) (b₀ b : Li
 
 abbrev pub ItemIs : List ℕ → Sort → ℕ → ℕ → ℕ → ℕ → List ℕ → List ℕ → Item → Type 0
 ItemIs s sort d from end o b₀ b (item.More f c l) = IsMore s sort d from end o b₀ b f c l
+ItemIs s sort d from end o b₀ b (item.Closed n l) = IsLast s sort d from end o b₀ b (Got n l)
 ItemIs s sort d from end o b₀ b (item.Last r) = IsLast s sort d from end o b₀ b r

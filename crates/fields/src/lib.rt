@@ -35,7 +35,21 @@ pub struct Seen {
     pub byte: u16,
 }
 
+// Quick where a character stands there that is certainly no blank.
 pub fn look(s: &[u8], at: usize) -> Seen
+    requires { ⌜ at ≤ length (now s) ⌝ }
+    ensures { λ r. ⌜ Looked (now (s .entry)) at (r .at) (r .byte) ⌝ }
+{
+    if at < s.len() {
+        let c = s[at];
+        if 32 < c && c < 128 {
+            return Seen { at, byte: c as u16 };
+        }
+    }
+    look_far(s, at)
+}
+
+fn look_far(s: &[u8], at: usize) -> Seen
     requires { ⌜ at ≤ length (now s) ⌝ }
     ensures { λ r. ⌜ Looked (now (s .entry)) at (r .at) (r .byte) ⌝ }
 {
@@ -301,11 +315,16 @@ fn longer(n: usize, r: Read) -> Read
     }
 }
 
-// A field with a `,` behind it: where the next field is read, and where the list closes if that fails; or the end of a list, whatever that is.
+// A field with a `,` behind it: where the next field is read, and where the list closes if that fails; a field with the `)` behind it; or the
+// end of a list, whatever that is.
 pub enum Item {
     More {
         field: usize,
         close: usize,
+        len: usize,
+    },
+    Closed {
+        next: usize,
         len: usize,
     },
     Last {
@@ -373,6 +392,9 @@ pub fn list(s: &[u8], at: usize, sort: Sort, d: usize, out: &mut [u8], o: usize)
                 end = c;
                 len += l;
             }
+            Item::Closed { next, len: l } => {
+                return Read::Got { next, len: len + l };
+            }
             Item::Last { r } => {
                 return longer(len, r);
             }
@@ -401,6 +423,12 @@ pub fn step(
                 return Item::More {
                     field: v.at + 1,
                     close: next,
+                    len,
+                };
+            }
+            if v.byte == 41 {
+                return Item::Closed {
+                    next: v.at + 1,
                     len,
                 };
             }

@@ -176,6 +176,18 @@ insert-end b₀ b₁ b₂ at end u h k e f =
     let z : at + length (u ++ X) ≡ at + length u + length X = omega (arith, length-append u X) in
     f ∙ rw (x, y, z, append-assoc)
 
+-- nothing to put in
+pub insert-none : (b : List ℕ) (at end : ℕ) (u : List ℕ) → at ≤ end → end + length u ≤ length b → length u ≡ 0 → b ≡ inserted at end u b
+unfolding inserted put
+insert-none b at end [] h k e =
+    let X : List ℕ = take (end - at) (drop at b) in
+    let z : at + length X ≡ end = omega (arith, moved-length b at end 0 h k) in
+    let y : at + (end - at) ≡ end = omega arith in
+    let g : drop (end - at) (drop at b) ≡ drop end b = drop-drop (end - at) at b ∙ ap (λ (n : ℕ). drop n b) y in
+    let f : X ++ drop end b ≡ drop at b = ap (λ (r : List ℕ). X ++ r) (sym g) ∙ take-append-drop (end - at) (drop at b) in
+    rw (z, f) (sym (take-append-drop at b))
+insert-none b at end (x ∷ u) h k e = absurd (omega arith)
+
 -- numbers of two and of four bytes
 pub get2-sum : (b : List ℕ) (at x y : ℕ) → at + 2 ≤ length b → x ≡ getD b at 0 → y ≡ getD b (at + 1) 0 → x + 256 * y ≡ leValue (take 2 (drop at b))
 unfolding leValue
@@ -187,4 +199,4 @@ unfolding leValue
 get4-sum b at x y z w h p q r s =
     rw (p, q, r, s, add-one, add-two, add-three, drop-cons b at 0 (omega arith), drop-cons b (suc at) 0 (omega arith), drop-cons b (suc (suc at)) 0 (omega arith), drop-cons b (suc (suc (suc at))) 0 (omega arith)) (omega arith)
 
-pub ruleset puts = (put2-stores, put8-stores, header-stores, front-puts, copy-start, copy-next, copy-end, shift-start, shift-next, shift-end, insert-end, get2-sum, get4-sum)
+pub ruleset puts = (put2-stores, put8-stores, header-stores, front-puts, copy-start, copy-next, copy-end, shift-start, shift-next, shift-end, insert-none, insert-end, get2-sum, get4-sum)

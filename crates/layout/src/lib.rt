@@ -93,6 +93,9 @@ pub fn insert(out: &mut [u8], at: usize, end: usize, part: &[u8])
     requires { ⌜ (at ≤ end) × (end + length (now part) ≤ length (now out)) ⌝ }
     ensures { λ _. ⌜ now (out .exit) ≡ inserted at end (now (part .entry)) (now (out .entry)) ⌝ }
 {
+    if part.len() == 0 {
+        return;
+    }
     shift(out, at, end, part.len());
     copy(out, at, part);
 }

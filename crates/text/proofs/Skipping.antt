@@ -13,7 +13,7 @@ use lib.Seq.{drop-cons}
 use borrow.Author.Tests.{eq-eqb, ne-eqb, eqb-true, eqb-false}
 use Rattle.kinds.specs.Bytes.{all, isAscii, comma, rparen}
 use Rattle.model.specs.Text.{span, charOf, charLength, character, validLength, isBlank, blankLength, blank, skip, peek, runByte, runLength}
-use Rattle.model.proofs.Scans.{span-le, blank-ascii, blank-plain, skip-le, skip-within, skip-none, skip-space, skip-part, peek-byte, peek-end, part-rest, scan-none, scan-item, valid-ascii}
+use Rattle.model.proofs.Scans.{span-le, blank-ascii, blank-space, blank-plain, skip-le, skip-within, skip-none, skip-space, skip-part, peek-byte, peek-end, part-rest, scan-none, scan-item, valid-ascii}
 use Rattle.text.specs.Found.{charFrom, CharIs, Skipped}
 
 module _ (t : List ℕ) (v n : ℕ) (r : Bool) (i : CharIs t v n) (e : r ≡ isBlank v) where
@@ -85,6 +85,9 @@ module _ (t : List ℕ) (i : ℕ) (h : i < length t) where
   pub run-paren : getD t i 0 ≡ 41 → false ≡ eqb (runByte (drop i t)) 1
   run-paren e = rw (drop-cons t i 0 h, runByte, e)
 
+  pub run-space : getD t i 0 ≡ 32 → false ≡ eqb (runByte (drop i t)) 1
+  run-space e = rw (drop-cons t i 0 h, runByte, e, blank-space)
+
   pub run-slow : (m : ℕ) → (getD t i 0 ≡ 44 → ⊥) → (getD t i 0 ≡ 41 → ⊥) → m ≡ blank (take (length t - i) (drop i t)) → eqb m 0 ≡ eqb (runByte (drop i t)) 1
   run-slow m k n e =
       let f : m ≡ blank (getD t i 0 ∷ drop (suc i) t) = rw (part-rest, drop-cons t i 0 h) at e in
@@ -118,4 +121,4 @@ pub valid-start : (t : List ℕ) → 0 + span character (drop 0 t) ≡ validLeng
 unfolding validLength
 valid-start t = zero-add _
 
-pub ruleset skipping = (run-start, valid-start, blank-yes, blank-no, char-length, valid-whole, skipped-slowly, skipped-none, skipped-space, skipped-end, peek-here, peek-past, run-plain, run-high, run-comma, run-paren, run-slow, run-stop, run-more)
+pub ruleset skipping = (run-start, valid-start, blank-yes, blank-no, char-length, valid-whole, skipped-slowly, skipped-none, skipped-space, skipped-end, peek-here, peek-past, run-plain, run-high, run-comma, run-paren, run-space, run-slow, run-stop, run-more)

@@ -321,6 +321,9 @@ fn in_run(t: &[u8], i: usize) -> bool
     if c == 41 {
         return false;
     }
+    if c == 32 {
+        return false;
+    }
     if 32 < c && c < 128 {
         return true;
     }

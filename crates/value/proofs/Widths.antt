@@ -10,7 +10,9 @@ use lib.Dec.{eqb}
 use lib.ListN.{length}
 use borrow.Author.Tests.{le-leb, lt-leb, eq-eqb, ne-eqb}
 use Rattle.kinds.specs.Kind.{BitWidth as KindWidth, isBitWidth, isByteLength, Elementary, int, uint}
-use Rattle.kinds.specs.Decimal.{number}
+use Rattle.kinds.specs.Bytes.{ascii, same}
+use Rattle.kinds.specs.Decimal.{unsigned, plain, number}
+use Rattle.kinds.proofs.Logic.{same-equal}
 use Rattle.kinds.proofs.Decimal.{number-bound}
 use Rattle.model.specs.declared.Refusal.the-variants.{InvalidBitWidth, InvalidByteLength}
 use Rattle.text.specs.Found.{toOption}
@@ -65,6 +67,12 @@ module _ (t : List ℕ) where
       go [] k = e
       go (c ∷ u) k = absurd (omega arith)
 
+  pub behind-widest : (q : Bool) (r : CheckedWidth) → q ≡ same (ascii "256") t → q ≡ true → widthOf r ≡ checkedWidth 256 → widthOf r ≡ widthBehind t
+  unfolding widthBehind number plain unsigned
+  behind-widest q r e f g =
+      let widest : checkedWidth 256 ≡ widthBehind (ascii "256") = refl in
+      g ∙ widest ∙ ap widthBehind (same-equal (ascii "256") t .0 (sym e ∙ f))
+
   behind : (n : Maybe) (o : Option ℕ) → (length t ≡ 0 → ⊥) → toOption n ≡ number 256 t → toOption n ≡ o → widthBehind t ≡ checkedBy checkedWidth o
   unfolding widthBehind
   behind n o z e f = go t z (sym e ∙ f)
@@ -117,4 +125,4 @@ module _ (l : CheckedLength) where
   unfolding lengthOf toResult
   of-no-length e = rw e
 
-pub ruleset widths = (width-low, width-high, width-valid, width-odd, length-low, length-high, length-valid, behind-none, behind-absent, behind-value, length-absent, length-value, of-int, of-uint, of-no-width, of-length, of-no-length)
+pub ruleset widths = (behind-widest, width-low, width-high, width-valid, width-odd, length-low, length-high, length-valid, behind-none, behind-absent, behind-value, length-absent, length-value, of-int, of-uint, of-no-width, of-length, of-no-length)

@@ -96,11 +96,14 @@ pub enum Spelled {
     Refused(Refusal),
 }
 
-// The width behind `int` or `uint`: 256 where there is none.
+// The width behind `int` or `uint`: 256 where there is none, and quick where it is that.
 fn width_behind(t: &[u8]) -> CheckedWidth
     ensures { λ r. ⌜ widthOf r ≡ widthBehind (now (t .entry)) ⌝ }
 {
     if t.len() == 0 {
+        return BitWidth::new(256);
+    }
+    if text::equal(b"256", t) {
         return BitWidth::new(256);
     }
     let n = text::number(256, t);

@@ -114,9 +114,13 @@ pub +field+list+step+tuple-spec : {M : Type 1} → statement M
     (λ c. search (needs, family))  -- list-loop-less
     (λ c. search (needs, family))  -- list-loop-again
     (λ c. search needs)  -- list-enum-known-i-2
-    (λ c κs. search (needs, family))  -- list-longer-requires
+    (λ c. search (needs, family))  -- list-add-t20
     (λ c. search needs)  -- list-same-length
-    (λ c. search (needs, family)))  -- list-returns
+    (λ c. search (needs, family))  -- list-returns
+    (λ c. search needs)  -- list-enum-known-i-3
+    (λ c κs. search (needs, family))  -- list-longer-requires
+    (λ c. search needs)  -- list-same-length-2
+    (λ c. search (needs, family)))  -- list-returns-2
     (λ t. step-lts.spec (step-calls t)
     (step-at t)
     step.Post
@@ -126,17 +130,20 @@ pub +field+list+step+tuple-spec : {M : Type 1} → statement M
     (λ c. search needs)  -- step-add-t16
     (λ c. search needs)  -- step-same-length
     (λ c. search (needs, family))  -- step-returns
+    (λ c. search needs)  -- step-add-t17
+    (λ c. search needs)  -- step-same-length-2
+    (λ c. search (needs, family))  -- step-returns-2
     (λ c κs. search needs)  -- step-close-requires
-    (λ c κs. let w = rw (c .before .before .before .before .before .f .given .1) at (c .before .before .before .before .before .before .before .before .before .field .ensures .within) in short-close _ _ _ _ (c .close .ensures) (search needs) (search needs))  -- step-longer-requires
+    (λ c κs. let w = rw (c .before .before .before .before .before .before .before .f .given .1) at (c .before .before .before .before .before .before .before .before .before .before .before .field .ensures .within) in short-close _ _ _ _ (c .close .ensures) (search needs) (search needs))  -- step-longer-requires
     (λ c. search needs)  -- step-enum-told
     (λ c κs. search needs)  -- step-close-requires-2
     (λ c. search needs)  -- step-enum-told-2
-    (λ c. search needs)  -- step-same-length-2
-    (λ c. search (needs, family))  -- step-returns-2
     (λ c. search needs)  -- step-same-length-3
     (λ c. search (needs, family))  -- step-returns-3
     (λ c. search needs)  -- step-same-length-4
-    (λ c. search (needs, family)))  -- step-returns-4
+    (λ c. search (needs, family))  -- step-returns-4
+    (λ c. search needs)  -- step-same-length-5
+    (λ c. search (needs, family)))  -- step-returns-5
     λ t. tuple-lts.spec (tuple-calls t)
     (tuple-at t)
     tuple.Post
