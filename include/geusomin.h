@@ -32,6 +32,9 @@ extern "C" {
    enough for every record. */
 #define GEUSOMIN_LINE_MAX 81920
 
+/* Room enough for every message. */
+#define GEUSOMIN_MESSAGE_MAX 256
+
 /* The refusals. "Wanted" is what the reader looked for where the position says. */
 enum geusomin_refusal {
     GEUSOMIN_EOS = 1,                  /* end of text where `(` or `)` was wanted */
@@ -90,6 +93,15 @@ uint32_t geusomin_kind_text(const uint8_t *record, size_t record_len, uint8_t *t
 
 /* The name of a function, an event, an error or a field; a field's may be empty. */
 uint32_t geusomin_copy_name(const uint8_t *record, size_t record_len, uint8_t *text, size_t room, size_t *value);
+
+/* The message call: the message of the error that the reading call of that name finds in a text, as
+   `expected identifier at position 8("function| ()")`. It writes nothing, and *value is 0, where that call accepts the
+   text or its refusal has no message: 8 to 10. */
+uint32_t geusomin_message_declaration(const uint8_t *text, size_t text_len, uint8_t *out, size_t room, size_t *value);
+uint32_t geusomin_message_function(const uint8_t *text, size_t text_len, uint8_t *out, size_t room, size_t *value);
+uint32_t geusomin_message_constructor(const uint8_t *text, size_t text_len, uint8_t *out, size_t room, size_t *value);
+uint32_t geusomin_message_event(const uint8_t *text, size_t text_len, uint8_t *out, size_t room, size_t *value);
+uint32_t geusomin_message_error(const uint8_t *text, size_t text_len, uint8_t *out, size_t room, size_t *value);
 
 #ifdef __cplusplus
 }

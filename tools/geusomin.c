@@ -1,7 +1,8 @@
 /*
  * The calls of include/geusomin.h on the command line.
  *
- *   geusomin              reads declarations from standard input, a line each, and prints for each what `deposit` prints
+ *   geusomin              reads declarations from standard input, a line each, and prints for each what `deposit` prints,
+ *                         with the message behind a tab where a refusal has one
  *   geusomin replay       reads lines `CALL HEX ROOM` and prints `ok HEX` or `no NUMBER POSITION` for each
  *   geusomin bench FILE   times the calls over a file of declarations
  *
@@ -37,6 +38,11 @@ static const struct {
     {"canonical", geusomin_canonical},
     {"signature", geusomin_signature},
     {"name", geusomin_copy_name},
+    {"message:general", geusomin_message_declaration},
+    {"message:function", geusomin_message_function},
+    {"message:constructor", geusomin_message_constructor},
+    {"message:event", geusomin_message_event},
+    {"message:error", geusomin_message_error},
 };
 
 struct bytes {
@@ -120,7 +126,7 @@ static bool next_line(struct bytes *line)
     return feed != NULL || held > 0;
 }
 
-/* What `deposit` prints. */
+/* What `deposit` prints, and the message. */
 
 static int kind_of(const uint8_t *record)
 {
@@ -163,6 +169,19 @@ static void print_canonical(struct bytes record)
         fail("a record that was read is refused");
 }
 
+static void print_message(struct bytes text)
+{
+    uint8_t message[GEUSOMIN_MESSAGE_MAX];
+    size_t length;
+
+    if (geusomin_message_declaration(text.at, text.length, message, sizeof message, &length) != 0)
+        fail("a message is too long");
+    if (length > 0) {
+        putchar('\t');
+        fwrite(message, 1, length, stdout);
+    }
+}
+
 static void print_deposit(struct bytes text)
 {
     static uint8_t record[GEUSOMIN_RECORD_MAX];
@@ -174,6 +193,7 @@ static void print_deposit(struct bytes text)
         print_canonical((struct bytes){record, value});
     } else {
         printf("no %" PRIu32 " %zu", refusal, value);
+        print_message(text);
     }
     putchar('\n');
 }

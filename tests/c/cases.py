@@ -3,6 +3,7 @@
 The Rust's list says what is read of a text, and canonical text and signature of what was read; a name and the kinds of its
 fields stand in the canonical text. What of records is wrong, and with which refusal, is document 01's.
 """
+import re
 
 UNLIMITED = "-"
 NOT_WELL_FORMED, WRONG_SORT, NO_ROOM = "no 15 0", "no 16 0", "no 20 0"
@@ -150,12 +151,15 @@ def of_declaration(r, canonical, signature):
 
 def of_row(row):
     """The calls that a row of the list tells of."""
-    call, text, verdict, *rest = row.split()
+    call, given, verdict, *rest = row.split()
+    text = unhexed(given)
+    if call != "kind":
+        yield from written(f"message:{call}", text, message_of_row(row))
     if verdict != "ok":
-        yield from refused(call, unhexed(text), f"no {rest[0]} {rest[1]}")
+        yield from refused(call, text, f"no {rest[0]} {rest[1]}")
         return
     r, canonical, signature = (unhexed(h) for h in rest)
-    yield from written(call, unhexed(text), r)
+    yield from written(call, text, r)
     if call == "kind":
         yield from of_field(r, canonical)
     else:
@@ -163,15 +167,64 @@ def of_row(row):
 
 
 def line_of_row(row):
-    """A text without line feeds, and what `deposit` prints of it; or nothing."""
-    call, text, verdict, *rest = row.split()
-    text = unhexed(text)
+    """A text without line feeds, and what the program prints of it; or nothing."""
+    call, given, verdict, *rest = row.split()
+    text = unhexed(given)
     if call != "general" or b"\n" in text:
         return None
     if verdict != "ok":
-        return text, f"no {rest[0]} {rest[1]}".encode()
+        message = message_of_row(row)
+        return text, f"no {rest[0]} {rest[1]}".encode() + (b"\t" + message if message else b"")
     r, canonical = unhexed(rest[0]), unhexed(rest[1])
     return text, b"ok %s %d %s" % (KEYWORDS[kind_of(r)].encode(), len(r), canonical or b"-")
+
+
+# Messages.
+
+WORDINGS = {
+    1: "unexpected end of stream",
+    2: "expected (",
+    3: "expected )",
+    4: "expected declaration",
+    5: "expected KEYWORD",
+    6: "expected identifier",
+    7: "expected end of declaration",
+}
+ESCAPED = {"\0": "\\0", "\t": "\\t", "\n": "\\n", "\r": "\\r", '"': '\\"', "\\": "\\\\"}
+
+
+def escaped(part):
+    """As Rust's Debug has it, but only ASCII; of a character that is cut nothing."""
+    return "".join(ESCAPED.get(c) or (f"\\u{{{ord(c):x}}}" if ord(c) < 32 or ord(c) == 127 else c) for c in part.decode(errors="ignore"))
+
+
+def message(call, text, number, position):
+    """A message by document 01."""
+    if number not in WORDINGS:
+        return b""
+    wanted = call if call != "general" else next((k for k in KEYWORDS.values() if text.startswith(k.encode())), "")
+    left, right = text[:position], text[position:]
+    context = ("..." if len(left) > 10 else "") + escaped(left[-10:]) + "|" + escaped(right[:10]) + ("..." if len(right) > 10 else "")
+    return f'{WORDINGS[number].replace("KEYWORD", wanted)} at position {position}("{context}")'.encode()
+
+
+def copied(rust):
+    """The Rust's message with the characters beyond ASCII that it escapes: "Other characters are copied"."""
+    def one(match):
+        return match[0] if match[1] is None or int(match[1], 16) < 128 else chr(int(match[1], 16))
+
+    return re.sub(r"\\u\{([0-9a-f]+)\}|\\.", one, rust.decode()).encode()
+
+
+def message_of_row(row):
+    """By the Rust where it has one; where it panics, by document 01."""
+    call, given, verdict, *rest = row.split()
+    if verdict == "ok":
+        return b""
+    text = unhexed(given)
+    here = message(call, text, int(rest[0]), int(rest[1]))
+    assert verdict == "panic" or here == copied(unhexed(rest[2])), row
+    return here
 
 
 # Records that nobody read.

@@ -6,6 +6,7 @@ ghost use mathlib.Core.Path.{_≡_};
 ghost use lib.ListN.{length};
 ghost use Rattle.model.specs.Answer.{writes, said, outcome, after};
 ghost use Rattle.model.specs.Calls.{readOutput, kindOutput, canonicalOutput, signatureOutput, kindTextOutput, nameOutput};
+ghost use Rattle.model.specs.Message.{messageOutput};
 ghost use Rattle.geusomin.specs.Told.{code, worth};
 
 // An answer in two numbers.
@@ -143,4 +144,57 @@ pub extern "C" fn geusomin_copy_name(record: &[u8], text: &mut [u8], value: &mut
     }
     *value = 0;
     refusal
+}
+
+#[no_mangle]
+pub extern "C" fn geusomin_message_declaration(
+    text: &[u8],
+    out: &mut [u8],
+    value: &mut usize,
+) -> u32
+    ensures tells { λ r. ⌜ r ≡ code (outcome (length (now (out .entry))) (messageOutput Call.General (now (text .entry)))) ⌝ }
+    ensures shows { λ _. ⌜ now (value .exit) ≡ worth (outcome (length (now (out .entry))) (messageOutput Call.General (now (text .entry)))) ⌝ }
+    ensures left { λ _. ⌜ now (out .exit) ≡ after (now (out .entry)) (messageOutput Call.General (now (text .entry))) ⌝ }
+{
+    tell(message::message(Call::General, text, out), value)
+}
+
+#[no_mangle]
+pub extern "C" fn geusomin_message_function(text: &[u8], out: &mut [u8], value: &mut usize) -> u32
+    ensures tells { λ r. ⌜ r ≡ code (outcome (length (now (out .entry))) (messageOutput Call.Function (now (text .entry)))) ⌝ }
+    ensures shows { λ _. ⌜ now (value .exit) ≡ worth (outcome (length (now (out .entry))) (messageOutput Call.Function (now (text .entry)))) ⌝ }
+    ensures left { λ _. ⌜ now (out .exit) ≡ after (now (out .entry)) (messageOutput Call.Function (now (text .entry))) ⌝ }
+{
+    tell(message::message(Call::Function, text, out), value)
+}
+
+#[no_mangle]
+pub extern "C" fn geusomin_message_constructor(
+    text: &[u8],
+    out: &mut [u8],
+    value: &mut usize,
+) -> u32
+    ensures tells { λ r. ⌜ r ≡ code (outcome (length (now (out .entry))) (messageOutput Call.Constructor (now (text .entry)))) ⌝ }
+    ensures shows { λ _. ⌜ now (value .exit) ≡ worth (outcome (length (now (out .entry))) (messageOutput Call.Constructor (now (text .entry)))) ⌝ }
+    ensures left { λ _. ⌜ now (out .exit) ≡ after (now (out .entry)) (messageOutput Call.Constructor (now (text .entry))) ⌝ }
+{
+    tell(message::message(Call::Constructor, text, out), value)
+}
+
+#[no_mangle]
+pub extern "C" fn geusomin_message_event(text: &[u8], out: &mut [u8], value: &mut usize) -> u32
+    ensures tells { λ r. ⌜ r ≡ code (outcome (length (now (out .entry))) (messageOutput Call.Event (now (text .entry)))) ⌝ }
+    ensures shows { λ _. ⌜ now (value .exit) ≡ worth (outcome (length (now (out .entry))) (messageOutput Call.Event (now (text .entry)))) ⌝ }
+    ensures left { λ _. ⌜ now (out .exit) ≡ after (now (out .entry)) (messageOutput Call.Event (now (text .entry))) ⌝ }
+{
+    tell(message::message(Call::Event, text, out), value)
+}
+
+#[no_mangle]
+pub extern "C" fn geusomin_message_error(text: &[u8], out: &mut [u8], value: &mut usize) -> u32
+    ensures tells { λ r. ⌜ r ≡ code (outcome (length (now (out .entry))) (messageOutput Call.Error (now (text .entry)))) ⌝ }
+    ensures shows { λ _. ⌜ now (value .exit) ≡ worth (outcome (length (now (out .entry))) (messageOutput Call.Error (now (text .entry)))) ⌝ }
+    ensures left { λ _. ⌜ now (out .exit) ≡ after (now (out .entry)) (messageOutput Call.Error (now (text .entry))) ⌝ }
+{
+    tell(message::message(Call::Error, text, out), value)
 }
