@@ -1,3 +1,5 @@
+use mathlib.Core.Path.{sym}
+use lib.Seq.{length-take-le}
 use borrow.Author.Needs.{needs}
 use Rattle.replay.proofs.says_line.Statement.{statement}
 use Rattle.replay.proofs.says_line.Tie as tie
@@ -17,7 +19,7 @@ returns c = search needs
 
 -- src/main.rt:278:27
 slice-aggregate-is-hex : tie.Need-slice-aggregate-is-hex
-slice-aggregate-is-hex c = ?
+slice-aggregate-is-hex c = sym (length-take-le _ _ (search needs))
 
 -- src/main.rt:278:13
 is-hex-requires : tie.Need-is-hex-requires
