@@ -28,6 +28,13 @@ extern "C" {
 #define GEUSOMIN_TEXT_MAX 4096
 #define GEUSOMIN_RECORD_MAX 40960
 
+/* No line that is written of a record is twice as long as the record, so a buffer of GEUSOMIN_LINE_MAX bytes is room
+   enough for every record. */
+#define GEUSOMIN_LINE_MAX 81920
+
+/* Room enough for every message. */
+#define GEUSOMIN_MESSAGE_MAX 256
+
 /* The refusals. "Wanted" is what the reader looked for where the position says. */
 enum geusomin_refusal {
     GEUSOMIN_EOS = 1,                  /* end of text where `(` or `)` was wanted */
@@ -72,6 +79,29 @@ uint32_t geusomin_parse_error(const uint8_t *text, size_t text_len, uint8_t *rec
 
 /* The kind call: a whole text as a kind. Writes a field with mark 0 and an empty name. */
 uint32_t geusomin_parse_kind(const uint8_t *text, size_t text_len, uint8_t *record, size_t room, size_t *value);
+
+/* The calls on records: bytes of any origin, which are checked first. */
+
+/* Canonical text of a function, an event or an error: name, `(`, kinds parted by `,`, `)`. */
+uint32_t geusomin_canonical(const uint8_t *record, size_t record_len, uint8_t *text, size_t room, size_t *value);
+
+/* Of a function: canonical text, `:`, and the outputs in brackets. */
+uint32_t geusomin_signature(const uint8_t *record, size_t record_len, uint8_t *text, size_t room, size_t *value);
+
+/* The kind of a field. */
+uint32_t geusomin_kind_text(const uint8_t *record, size_t record_len, uint8_t *text, size_t room, size_t *value);
+
+/* The name of a function, an event, an error or a field; a field's may be empty. */
+uint32_t geusomin_copy_name(const uint8_t *record, size_t record_len, uint8_t *text, size_t room, size_t *value);
+
+/* The message call: the message of the error that the reading call of that name finds in a text, as
+   `expected identifier at position 8("function| ()")`. It writes nothing, and *value is 0, where that call accepts the
+   text or its refusal has no message: 8 to 10. */
+uint32_t geusomin_message_declaration(const uint8_t *text, size_t text_len, uint8_t *out, size_t room, size_t *value);
+uint32_t geusomin_message_function(const uint8_t *text, size_t text_len, uint8_t *out, size_t room, size_t *value);
+uint32_t geusomin_message_constructor(const uint8_t *text, size_t text_len, uint8_t *out, size_t room, size_t *value);
+uint32_t geusomin_message_event(const uint8_t *text, size_t text_len, uint8_t *out, size_t room, size_t *value);
+uint32_t geusomin_message_error(const uint8_t *text, size_t text_len, uint8_t *out, size_t room, size_t *value);
 
 #ifdef __cplusplus
 }

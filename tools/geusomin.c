@@ -1,7 +1,8 @@
 /*
  * The calls of include/geusomin.h on the command line.
  *
- *   geusomin              reads declarations from standard input, a line each, and prints for each what `deposit` prints
+ *   geusomin              reads declarations from standard input, a line each, and prints for each what `deposit` prints,
+ *                         with the message behind a tab where a refusal has one
  *   geusomin replay       reads lines `CALL HEX ROOM` and prints `ok HEX` or `no NUMBER POSITION` for each
  *   geusomin bench FILE   times the calls over a file of declarations
  *
@@ -33,6 +34,15 @@ static const struct {
     {"event", geusomin_parse_event},
     {"error", geusomin_parse_error},
     {"kind", geusomin_parse_kind},
+    {"kind_text", geusomin_kind_text},
+    {"canonical", geusomin_canonical},
+    {"signature", geusomin_signature},
+    {"name", geusomin_copy_name},
+    {"message:general", geusomin_message_declaration},
+    {"message:function", geusomin_message_function},
+    {"message:constructor", geusomin_message_constructor},
+    {"message:event", geusomin_message_event},
+    {"message:error", geusomin_message_error},
 };
 
 struct bytes {
@@ -116,11 +126,16 @@ static bool next_line(struct bytes *line)
     return feed != NULL || held > 0;
 }
 
-/* What `deposit` prints. */
+/* What `deposit` prints, and the message. */
 
-static const char *keyword_of(const uint8_t *record)
+static int kind_of(const uint8_t *record)
 {
-    switch (record[4] | record[5] << 8) {
+    return record[4] | record[5] << 8;
+}
+
+static const char *keyword_of(int kind)
+{
+    switch (kind) {
     case GEUSOMIN_FUNCTION:
         return "function";
     case GEUSOMIN_CONSTRUCTOR:
@@ -140,16 +155,47 @@ static struct bytes judged(struct bytes line)
     return line;
 }
 
+/* The canonical text, `-` for a constructor. */
+static void print_canonical(struct bytes record)
+{
+    static uint8_t text[GEUSOMIN_LINE_MAX];
+    size_t length;
+
+    if (kind_of(record.at) == GEUSOMIN_CONSTRUCTOR)
+        putchar('-');
+    else if (geusomin_canonical(record.at, record.length, text, sizeof text, &length) == 0)
+        fwrite(text, 1, length, stdout);
+    else
+        fail("a record that was read is refused");
+}
+
+static void print_message(struct bytes text)
+{
+    uint8_t message[GEUSOMIN_MESSAGE_MAX];
+    size_t length;
+
+    if (geusomin_message_declaration(text.at, text.length, message, sizeof message, &length) != 0)
+        fail("a message is too long");
+    if (length > 0) {
+        putchar('\t');
+        fwrite(message, 1, length, stdout);
+    }
+}
+
 static void print_deposit(struct bytes text)
 {
     static uint8_t record[GEUSOMIN_RECORD_MAX];
     size_t value;
     uint32_t refusal = geusomin_parse_declaration(text.at, text.length, record, sizeof record, &value);
 
-    if (refusal == 0)
-        printf("ok %s %zu\n", keyword_of(record), value);
-    else
-        printf("no %" PRIu32 " %zu\n", refusal, value);
+    if (refusal == 0) {
+        printf("ok %s %zu ", keyword_of(kind_of(record)), value);
+        print_canonical((struct bytes){record, value});
+    } else {
+        printf("no %" PRIu32 " %zu", refusal, value);
+        print_message(text);
+    }
+    putchar('\n');
 }
 
 static void print_deposits(void)
@@ -307,6 +353,7 @@ struct corpus {
     struct bytes kept[KEPT_MAX];
 };
 
+static struct corpus texts, lined, functions;
 static uint8_t store[1 << 26];
 static size_t stored;
 
@@ -345,21 +392,38 @@ static void time_call(const char *name, call *run, const struct corpus *corpus)
            best * 1e9 / (double)corpus->count);
 }
 
+/* Keeps a text, and its record for the calls that take it; false where the store is full. */
+static bool keep_line(struct bytes text)
+{
+    static uint8_t record[GEUSOMIN_RECORD_MAX];
+    size_t value;
+    bool kept = keep(&texts, text);
+
+    if (geusomin_parse_declaration(text.at, text.length, record, sizeof record, &value) != 0)
+        return kept;
+    if (kind_of(record) != GEUSOMIN_CONSTRUCTOR)
+        kept = kept && keep(&lined, (struct bytes){record, value});
+    if (kind_of(record) == GEUSOMIN_FUNCTION)
+        kept = kept && keep(&functions, (struct bytes){record, value});
+    return kept;
+}
+
 static void bench(const char *path)
 {
-    static struct corpus texts;
     struct bytes line;
 
     window.file = open(path, O_RDONLY);
     if (window.file < 0)
         fail("bench: cannot open the file");
     while (next_line(&line)) {
-        if (!keep(&texts, judged(line))) {
+        if (!keep_line(judged(line))) {
             fprintf(stderr, "geusomin: bench: only the first %zu lines are timed\n", texts.count);
             break;
         }
     }
     time_call("general", geusomin_parse_declaration, &texts);
+    time_call("canonical", geusomin_canonical, &lined);
+    time_call("signature", geusomin_signature, &functions);
 }
 
 int main(int argc, char **argv)

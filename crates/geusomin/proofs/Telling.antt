@@ -1,13 +1,20 @@
 -- From a call's answer to what C is told.
 -- Assumes nothing.
 use mathlib.Core.Path.{_≡_, refl, sym, _∙_, ap}
-use mathlib.Core.List.{List}
+use mathlib.Core.List.{List, []}
+use mathlib.Core.Option.{Option, none, some}
 use Prim.Native.Nat.{ℕ}
+use native.Mathlib.Omega.{arith}
 use lib.ListN.{length}
 use Rattle.model.specs.declared.Refusal.{Refusal}
+use Rattle.model.specs.declared.Refusal.the-variants.{NoRoom, Eos, ExpectOpen, ExpectClose, ExpectDeclaration, ExpectKeyword, ExpectIdentifier, ExpectEnd, TooLong, NotUtf8, TooDeep, InvalidBitWidth, InvalidByteLength, Unknown, StartsWithTuple, NotWellFormed, WrongSort}
 use Rattle.model.specs.declared.Answer.{Answer}
 use Rattle.model.specs.declared.Answer.the-variants.{Accepted, Refused}
-use Rattle.model.specs.Answer.{Output, number, said, outcome, after}
+use Rattle.model.specs.Answer.{Output, writes, refuses, number, said, outcome, after, handed, refusalNumber}
+use Rattle.model.specs.Tree.{Declaration, Field}
+use Rattle.model.specs.Line.{nameOf, fieldName}
+use Rattle.model.specs.Record.{decode, decodeLone}
+use Rattle.model.specs.Calls.{orWrongSort, nameBy, nameOutput}
 use Rattle.geusomin.specs.Told.{code, worth}
 
 module _ (a : Answer) where
@@ -23,3 +30,70 @@ module _ (a : Answer) where
   pub told : (o : Output) (b b₁ : List ℕ) (r v : ℕ) → said a ≡ outcome (length b) o → b₁ ≡ after b o → r ≡ code (said a) → v ≡ worth (said a)
       → (r ≡ code (outcome (length b) o)) × ((v ≡ worth (outcome (length b) o)) × (b₁ ≡ after b o))
   told o b b₁ r v e g h k = (h ∙ ap code e, (k ∙ ap worth e, g))
+
+-- the name call: its output by the number that it tells
+
+-- no refusal has the number 0
+number-is-not-0 : (w : Refusal) → number w ≡ 0 → ⊥
+unfolding number
+number-is-not-0 Eos e = omega arith
+number-is-not-0 ExpectOpen e = omega arith
+number-is-not-0 ExpectClose e = omega arith
+number-is-not-0 ExpectDeclaration e = omega arith
+number-is-not-0 ExpectKeyword e = omega arith
+number-is-not-0 ExpectIdentifier e = omega arith
+number-is-not-0 ExpectEnd e = omega arith
+number-is-not-0 TooLong e = omega arith
+number-is-not-0 NotUtf8 e = omega arith
+number-is-not-0 TooDeep e = omega arith
+number-is-not-0 InvalidBitWidth e = omega arith
+number-is-not-0 InvalidByteLength e = omega arith
+number-is-not-0 Unknown e = omega arith
+number-is-not-0 StartsWithTuple e = omega arith
+number-is-not-0 NotWellFormed e = omega arith
+number-is-not-0 WrongSort e = omega arith
+number-is-not-0 NoRoom e = omega arith
+
+handed-over : (o : Output) → refusalNumber o ≡ 0 → o ≡ writes (handed o)
+unfolding refusalNumber handed
+handed-over (writes u) e = refl
+handed-over (refuses w p) e = absurd (number-is-not-0 w e)
+
+-- a refusal of the name call stands at position 0
+pub record AtFront (o : Output) : Type 0 where
+  pub front : (room : ℕ) (b : List ℕ) → (refusalNumber o ≡ 0 → ⊥) → (refusalNumber o ≡ code (outcome room o)) × ((0 ≡ worth (outcome room o)) × (b ≡ after b o))
+
+writes-at-front : (u : List ℕ) → AtFront (writes u)
+unfolding refusalNumber
+writes-at-front u = record { front = λ room b h. absurd (h refl) }
+
+refuses-at-front : (w : Refusal) → AtFront (refuses w 0)
+unfolding refusalNumber code worth outcome after
+refuses-at-front w = record { front = λ room b h. (refl, (refl, refl)) }
+
+sort-at-front : (n : Option (List ℕ)) → AtFront (orWrongSort n)
+sort-at-front none = refuses-at-front WrongSort
+sort-at-front (some u) = writes-at-front u
+
+by-at-front : (d : Option Declaration) (f : Option Field) → AtFront (nameBy d f)
+by-at-front (some d) f = sort-at-front (nameOf d)
+by-at-front none none = refuses-at-front NotWellFormed
+by-at-front none (some g) = writes-at-front (fieldName g)
+
+name-at-front : (b : List ℕ) → AtFront (nameOutput b)
+unfolding nameOutput
+name-at-front b = by-at-front (decode b) (decodeLone b)
+
+module _ (s b : List ℕ) (n : ℕ) where
+  pub name-copied : (a : Answer) (p b₁ : List ℕ) (r v : ℕ) → n ≡ refusalNumber (nameOutput s) → n ≡ 0 → p ≡ handed (nameOutput s)
+      → said a ≡ outcome (length b) (writes p) → b₁ ≡ after b (writes p) → r ≡ code (said a) → v ≡ worth (said a)
+      → (r ≡ code (outcome (length b) (nameOutput s))) × ((v ≡ worth (outcome (length b) (nameOutput s))) × (b₁ ≡ after b (nameOutput s)))
+  name-copied a p b₁ r v e z f g h k l =
+      let o : nameOutput s ≡ writes p = rw f (handed-over (nameOutput s) (sym e ∙ z)) in
+      rw o (told a (writes p) b b₁ r v g h k l)
+
+  pub name-refused : n ≡ refusalNumber (nameOutput s) → (n ≡ 0 → ⊥)
+      → (n ≡ code (outcome (length b) (nameOutput s))) × ((0 ≡ worth (outcome (length b) (nameOutput s))) × (b ≡ after b (nameOutput s)))
+  name-refused e h =
+      let c = name-at-front s .front (length b) b (λ z. h (e ∙ z)) in
+      (e ∙ c .0, c .1)

@@ -1,10 +1,12 @@
 // The C interface, one function a call; include/geusomin.h declares them. To C a slice is a pointer and a length.
 use model::Answer;
 use model::Call;
+use model::Refusal;
 ghost use mathlib.Core.Path.{_≡_};
 ghost use lib.ListN.{length};
-ghost use Rattle.model.specs.Answer.{said, outcome, after};
-ghost use Rattle.model.specs.Calls.{readOutput, kindOutput};
+ghost use Rattle.model.specs.Answer.{writes, said, outcome, after};
+ghost use Rattle.model.specs.Calls.{readOutput, kindOutput, canonicalOutput, signatureOutput, kindTextOutput, nameOutput};
+ghost use Rattle.model.specs.Message.{messageOutput};
 ghost use Rattle.geusomin.specs.Told.{code, worth};
 
 // An answer in two numbers.
@@ -84,4 +86,115 @@ pub extern "C" fn geusomin_parse_kind(text: &[u8], record: &mut [u8], value: &mu
     ensures left { λ _. ⌜ now («record» .exit) ≡ after (now («record» .entry)) (kindOutput (now (text .entry))) ⌝ }
 {
     tell(value::parse_kind(text, record), value)
+}
+
+#[no_mangle]
+pub extern "C" fn geusomin_canonical(record: &[u8], text: &mut [u8], value: &mut usize) -> u32
+    ensures tells { λ r. ⌜ r ≡ code (outcome (length (now (text .entry))) (canonicalOutput (now («record» .entry)))) ⌝ }
+    ensures shows { λ _. ⌜ now (value .exit) ≡ worth (outcome (length (now (text .entry))) (canonicalOutput (now («record» .entry)))) ⌝ }
+    ensures left { λ _. ⌜ now (text .exit) ≡ after (now (text .entry)) (canonicalOutput (now («record» .entry))) ⌝ }
+{
+    tell(abi::canonical(record, text), value)
+}
+
+#[no_mangle]
+pub extern "C" fn geusomin_signature(record: &[u8], text: &mut [u8], value: &mut usize) -> u32
+    ensures tells { λ r. ⌜ r ≡ code (outcome (length (now (text .entry))) (signatureOutput (now («record» .entry)))) ⌝ }
+    ensures shows { λ _. ⌜ now (value .exit) ≡ worth (outcome (length (now (text .entry))) (signatureOutput (now («record» .entry)))) ⌝ }
+    ensures left { λ _. ⌜ now (text .exit) ≡ after (now (text .entry)) (signatureOutput (now («record» .entry))) ⌝ }
+{
+    tell(abi::signature(record, text), value)
+}
+
+#[no_mangle]
+pub extern "C" fn geusomin_kind_text(record: &[u8], text: &mut [u8], value: &mut usize) -> u32
+    ensures tells { λ r. ⌜ r ≡ code (outcome (length (now (text .entry))) (kindTextOutput (now («record» .entry)))) ⌝ }
+    ensures shows { λ _. ⌜ now (value .exit) ≡ worth (outcome (length (now (text .entry))) (kindTextOutput (now («record» .entry)))) ⌝ }
+    ensures left { λ _. ⌜ now (text .exit) ≡ after (now (text .entry)) (kindTextOutput (now («record» .entry))) ⌝ }
+{
+    tell(abi::kind_text(record, text), value)
+}
+
+// A part, copied whole or not at all.
+fn copied(part: &[u8], text: &mut [u8]) -> Answer
+    ensures says { λ r. ⌜ said r ≡ outcome (length (now (text .entry))) (writes (now (part .entry))) ⌝ }
+    ensures left { λ _. ⌜ now (text .exit) ≡ after (now (text .entry)) (writes (now (part .entry))) ⌝ }
+{
+    let length = part.len();
+    if text.len() < length {
+        return Answer::Refused {
+            refusal: Refusal::NoRoom,
+            position: 0,
+        };
+    }
+    layout::copy(text, 0, part);
+    Answer::Accepted { length }
+}
+
+#[no_mangle]
+pub extern "C" fn geusomin_copy_name(record: &[u8], text: &mut [u8], value: &mut usize) -> u32
+    ensures tells { λ r. ⌜ r ≡ code (outcome (length (now (text .entry))) (nameOutput (now («record» .entry)))) ⌝ }
+    ensures shows { λ _. ⌜ now (value .exit) ≡ worth (outcome (length (now (text .entry))) (nameOutput (now («record» .entry)))) ⌝ }
+    ensures left { λ _. ⌜ now (text .exit) ≡ after (now (text .entry)) (nameOutput (now («record» .entry))) ⌝ }
+{
+    let mut refusal = 0;
+    let name = abi::name(record, &mut refusal);
+    if refusal == 0 {
+        return tell(copied(name, text), value);
+    }
+    *value = 0;
+    refusal
+}
+
+#[no_mangle]
+pub extern "C" fn geusomin_message_declaration(
+    text: &[u8],
+    out: &mut [u8],
+    value: &mut usize,
+) -> u32
+    ensures tells { λ r. ⌜ r ≡ code (outcome (length (now (out .entry))) (messageOutput Call.General (now (text .entry)))) ⌝ }
+    ensures shows { λ _. ⌜ now (value .exit) ≡ worth (outcome (length (now (out .entry))) (messageOutput Call.General (now (text .entry)))) ⌝ }
+    ensures left { λ _. ⌜ now (out .exit) ≡ after (now (out .entry)) (messageOutput Call.General (now (text .entry))) ⌝ }
+{
+    tell(message::message(Call::General, text, out), value)
+}
+
+#[no_mangle]
+pub extern "C" fn geusomin_message_function(text: &[u8], out: &mut [u8], value: &mut usize) -> u32
+    ensures tells { λ r. ⌜ r ≡ code (outcome (length (now (out .entry))) (messageOutput Call.Function (now (text .entry)))) ⌝ }
+    ensures shows { λ _. ⌜ now (value .exit) ≡ worth (outcome (length (now (out .entry))) (messageOutput Call.Function (now (text .entry)))) ⌝ }
+    ensures left { λ _. ⌜ now (out .exit) ≡ after (now (out .entry)) (messageOutput Call.Function (now (text .entry))) ⌝ }
+{
+    tell(message::message(Call::Function, text, out), value)
+}
+
+#[no_mangle]
+pub extern "C" fn geusomin_message_constructor(
+    text: &[u8],
+    out: &mut [u8],
+    value: &mut usize,
+) -> u32
+    ensures tells { λ r. ⌜ r ≡ code (outcome (length (now (out .entry))) (messageOutput Call.Constructor (now (text .entry)))) ⌝ }
+    ensures shows { λ _. ⌜ now (value .exit) ≡ worth (outcome (length (now (out .entry))) (messageOutput Call.Constructor (now (text .entry)))) ⌝ }
+    ensures left { λ _. ⌜ now (out .exit) ≡ after (now (out .entry)) (messageOutput Call.Constructor (now (text .entry))) ⌝ }
+{
+    tell(message::message(Call::Constructor, text, out), value)
+}
+
+#[no_mangle]
+pub extern "C" fn geusomin_message_event(text: &[u8], out: &mut [u8], value: &mut usize) -> u32
+    ensures tells { λ r. ⌜ r ≡ code (outcome (length (now (out .entry))) (messageOutput Call.Event (now (text .entry)))) ⌝ }
+    ensures shows { λ _. ⌜ now (value .exit) ≡ worth (outcome (length (now (out .entry))) (messageOutput Call.Event (now (text .entry)))) ⌝ }
+    ensures left { λ _. ⌜ now (out .exit) ≡ after (now (out .entry)) (messageOutput Call.Event (now (text .entry))) ⌝ }
+{
+    tell(message::message(Call::Event, text, out), value)
+}
+
+#[no_mangle]
+pub extern "C" fn geusomin_message_error(text: &[u8], out: &mut [u8], value: &mut usize) -> u32
+    ensures tells { λ r. ⌜ r ≡ code (outcome (length (now (out .entry))) (messageOutput Call.Error (now (text .entry)))) ⌝ }
+    ensures shows { λ _. ⌜ now (value .exit) ≡ worth (outcome (length (now (out .entry))) (messageOutput Call.Error (now (text .entry)))) ⌝ }
+    ensures left { λ _. ⌜ now (out .exit) ≡ after (now (out .entry)) (messageOutput Call.Error (now (text .entry))) ⌝ }
+{
+    tell(message::message(Call::Error, text, out), value)
 }
