@@ -1,4 +1,9 @@
 // The lines that are written of a record: canonical text, signature and a field's kind; and the name in it.
+use model::Answer;
+use model::Refusal;
+use record::Checked;
+use record::Measured;
+use record::Spot;
 ghost use mathlib.Core.Path.{_≡_};
 ghost use Prim.Native.Nat.{_+_, _≤_, _<_};
 ghost use lib.ListN.{length};
@@ -6,7 +11,10 @@ ghost use Rattle.kinds.specs.Bytes.{ascii};
 ghost use Rattle.kinds.specs.Decimal.{decimal};
 ghost use Rattle.layout.specs.Buffer.{put};
 ghost use Rattle.record.specs.Texts.{elementaryFrom, suffixFrom, suffixesFrom};
-ghost use Rattle.abi.specs.Writes.{Room, Wrote, KindRoom, KindWrote, TupleRoom, TupleWrote};
+ghost use Rattle.abi.specs.Writes.{Room, Wrote, KindRoom, KindWrote, FieldRoom, FieldWrote, FieldsRoom, FieldsWrote};
+ghost use Rattle.model.specs.Answer.{said, outcome, after, handed, refusalNumber};
+ghost use Rattle.abi.specs.Lines.{LineRoom, LineWrote, Lined, LineEnds, Signed, SignatureEnds, Kinded, KindEnds, NameFound};
+ghost use Rattle.model.specs.Calls.{canonicalOutput, signatureOutput, kindTextOutput, nameOutput};
 
 // Words, each written at o; the place behind it.
 
@@ -205,4 +213,250 @@ fn write_suffixes(b: &[u8], out: &mut [u8], o: usize) -> usize
         at += l;
     }
     p
+}
+
+// A base and its suffixes: "writing a kind goes down through its tuples".
+fn write_kind(t: &[u8], out: &mut [u8], o: usize) -> usize
+    requires { ⌜ KindRoom (now t) o (now out) ⌝ }
+    ensures { λ r. ⌜ KindWrote (now (t .entry)) o (now (out .entry)) (now (out .exit)) r ⌝ }
+{
+    let n = layout::get4(t, 0);
+    let k = layout::get2(t, 4);
+    match k {
+        9 => {
+            let p = write_fields(&t[6..n], out, o);
+            write_suffixes(&t[n..], out, p)
+        }
+        _ => {
+            let p = write_elementary(k, &t[6..n], out, o);
+            write_suffixes(&t[n..], out, p)
+        }
+    }
+}
+
+// The kind of a field, by its record's body.
+fn write_field(body: &[u8], out: &mut [u8], o: usize) -> usize
+    requires { ⌜ FieldRoom (now body) o (now out) ⌝ }
+    ensures { λ r. ⌜ FieldWrote (now (body .entry)) o (now (out .entry)) (now (out .exit)) r ⌝ }
+{
+    let q = 2 + layout::get4(body, 2);
+    write_kind(&body[q..], out, o)
+}
+
+// The kinds of the fields up to the end, in brackets: each with a comma before it, and a bracket in the place of the first.
+fn write_fields(b: &[u8], out: &mut [u8], o: usize) -> usize
+    requires { ⌜ FieldsRoom (now b) o (now out) ⌝ }
+    ensures { λ r. ⌜ FieldsWrote (now (b .entry)) o (now (out .entry)) (now (out .exit)) r ⌝ }
+{
+    let mut at = 0;
+    let mut p = o;
+    while at < b.len() {
+        let t = &b[at..];
+        let l = layout::get4(t, 0);
+        out[p] = 44;
+        p = write_field(&t[6..l], out, p + 1);
+        at += l;
+    }
+    if p == o {
+        out[o] = 40;
+        out[o + 1] = 41;
+        return o + 2;
+    }
+    out[p] = 41;
+    out[o] = 40;
+    p + 1
+}
+
+// Lines.
+
+fn refused(refusal: Refusal) -> Answer
+    ensures { λ r. ⌜ r ≡ Answer.Refused refusal 0 ⌝ }
+{
+    Answer::Refused {
+        refusal,
+        position: 0,
+    }
+}
+
+// "Name, `(`, kinds parted by `,`, `)`": the name and the list that stand at places of the record. The place behind the line.
+fn write_line(
+    record: &[u8],
+    from: usize,
+    to: usize,
+    start: usize,
+    end: usize,
+    text: &mut [u8],
+) -> usize
+    requires { ⌜ LineRoom (now «record») from to start end (now text) ⌝ }
+    ensures { λ r. ⌜ LineWrote (now («record» .entry)) from to start end (now (text .entry)) (now (text .exit)) r ⌝ }
+{
+    layout::copy(text, 0, &record[from..to]);
+    write_fields(&record[start..end], text, to - from)
+}
+
+fn line(record: &[u8], name: Spot, inputs: Measured, text: &mut [u8]) -> Answer
+    requires { ⌜ Lined (now «record») name inputs ⌝ }
+    ensures { λ r. ⌜ LineEnds (now («record» .entry)) name inputs (now (text .entry)) (now (text .exit)) r ⌝ }
+{
+    let from = name.from;
+    let to = name.to;
+    let start = inputs.from;
+    let end = inputs.to;
+    let length = to - from + inputs.text;
+    if text.len() < length {
+        return refused(Refusal::NoRoom);
+    }
+    write_line(record, from, to, start, end, text);
+    Answer::Accepted { length }
+}
+
+// "canonical text, `:`, and the outputs in brackets"
+fn signature_line(
+    record: &[u8],
+    name: Spot,
+    inputs: Measured,
+    outputs: Measured,
+    text: &mut [u8],
+) -> Answer
+    requires { ⌜ Signed (now «record») name inputs outputs ⌝ }
+    ensures { λ r. ⌜ SignatureEnds (now («record» .entry)) name inputs outputs (now (text .entry)) (now (text .exit)) r ⌝ }
+{
+    let from = name.from;
+    let to = name.to;
+    let start = inputs.from;
+    let end = inputs.to;
+    let length = to - from + inputs.text + 1 + outputs.text;
+    if text.len() < length {
+        return refused(Refusal::NoRoom);
+    }
+    let p = write_line(record, from, to, start, end, text);
+    text[p] = 58;
+    let first = outputs.from;
+    let last = outputs.to;
+    write_fields(&record[first..last], text, p + 1);
+    Answer::Accepted { length }
+}
+
+fn kind_line(record: &[u8], kind: Measured, text: &mut [u8]) -> Answer
+    requires { ⌜ Kinded (now «record») kind ⌝ }
+    ensures { λ r. ⌜ KindEnds (now («record» .entry)) kind (now (text .entry)) (now (text .exit)) r ⌝ }
+{
+    let from = kind.from;
+    let to = kind.to;
+    let length = kind.text;
+    if text.len() < length {
+        return refused(Refusal::NoRoom);
+    }
+    write_kind(&record[from..to], text, 0);
+    Answer::Accepted { length }
+}
+
+// The calls.
+
+// "Name, `(`, kinds parted by `,`, `)`"
+pub fn canonical(record: &[u8], text: &mut [u8]) -> Answer
+    ensures says { λ r. ⌜ said r ≡ outcome (length (now (text .entry))) (canonicalOutput (now («record» .entry))) ⌝ }
+    ensures left { λ _. ⌜ now (text .exit) ≡ after (now (text .entry)) (canonicalOutput (now («record» .entry))) ⌝ }
+{
+    let c = record::check(record);
+    match c {
+        Checked::Function {
+            name,
+            inputs,
+            outputs,
+        } => line(record, name, inputs, text),
+        Checked::Constructor => refused(Refusal::WrongSort),
+        Checked::Event { name, inputs } => line(record, name, inputs, text),
+        Checked::Error { name, inputs } => line(record, name, inputs, text),
+        Checked::Field { name, kind } => refused(Refusal::NotWellFormed),
+        Checked::IllFormed => refused(Refusal::NotWellFormed),
+    }
+}
+
+// "The signature call writes canonical text, `:`, and the outputs in brackets."
+pub fn signature(record: &[u8], text: &mut [u8]) -> Answer
+    ensures says { λ r. ⌜ said r ≡ outcome (length (now (text .entry))) (signatureOutput (now («record» .entry))) ⌝ }
+    ensures left { λ _. ⌜ now (text .exit) ≡ after (now (text .entry)) (signatureOutput (now («record» .entry))) ⌝ }
+{
+    let c = record::check(record);
+    match c {
+        Checked::Function {
+            name,
+            inputs,
+            outputs,
+        } => signature_line(record, name, inputs, outputs, text),
+        Checked::Constructor => refused(Refusal::WrongSort),
+        Checked::Event { name, inputs } => refused(Refusal::WrongSort),
+        Checked::Error { name, inputs } => refused(Refusal::WrongSort),
+        Checked::Field { name, kind } => refused(Refusal::NotWellFormed),
+        Checked::IllFormed => refused(Refusal::NotWellFormed),
+    }
+}
+
+// "The kind-text call writes a field record's kind."
+pub fn kind_text(record: &[u8], text: &mut [u8]) -> Answer
+    ensures says { λ r. ⌜ said r ≡ outcome (length (now (text .entry))) (kindTextOutput (now («record» .entry))) ⌝ }
+    ensures left { λ _. ⌜ now (text .exit) ≡ after (now (text .entry)) (kindTextOutput (now («record» .entry))) ⌝ }
+{
+    let c = record::check(record);
+    match c {
+        Checked::Function {
+            name,
+            inputs,
+            outputs,
+        } => refused(Refusal::NotWellFormed),
+        Checked::Constructor => refused(Refusal::NotWellFormed),
+        Checked::Event { name, inputs } => refused(Refusal::NotWellFormed),
+        Checked::Error { name, inputs } => refused(Refusal::NotWellFormed),
+        Checked::Field { name, kind } => kind_line(record, kind, text),
+        Checked::IllFormed => refused(Refusal::NotWellFormed),
+    }
+}
+
+// Where the name stands, and the number of the refusal; "on refusal, the record's empty beginning".
+fn named(record: &[u8], refusal: &mut u32) -> Spot
+    ensures { λ r. ⌜ NameFound (now («record» .entry)) r (now (refusal .exit)) ⌝ }
+{
+    let c = record::check(record);
+    match c {
+        Checked::Function {
+            name,
+            inputs,
+            outputs,
+        } => {
+            *refusal = 0;
+            name
+        }
+        Checked::Constructor => {
+            *refusal = 16;
+            Spot { from: 0, to: 0 }
+        }
+        Checked::Event { name, inputs } => {
+            *refusal = 0;
+            name
+        }
+        Checked::Error { name, inputs } => {
+            *refusal = 0;
+            name
+        }
+        Checked::Field { name, kind } => {
+            *refusal = 0;
+            name
+        }
+        Checked::IllFormed => {
+            *refusal = 15;
+            Spot { from: 0, to: 0 }
+        }
+    }
+}
+
+// "The name call hands back the name's own bytes within the record, of a declaration or field". "A lent number takes its refusal, 0 if none."
+pub fn name<'a>(record: &'a [u8], refusal: &mut u32) -> &'a [u8]
+    ensures handed { λ r. ⌜ now r ≡ handed (nameOutput (now («record» .entry))) ⌝ }
+    ensures told { λ _. ⌜ now (refusal .exit) ≡ refusalNumber (nameOutput (now («record» .entry))) ⌝ }
+{
+    let s = named(record, refusal);
+    let from = s.from;
+    let to = s.to;
+    &record[from..to]
 }

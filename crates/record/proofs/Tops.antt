@@ -4,7 +4,7 @@ use mathlib.Core.Path.{_≡_, refl, sym, _∙_, ap₂}
 use mathlib.Core.Bool.{Bool, true, false}
 use mathlib.Core.List.{List, [], _∷_}
 use mathlib.Core.Option.{Option, none, some}
-use Prim.Native.Nat.{ℕ, _+_, _-_, _≤_, _<_}
+use Prim.Native.Nat.{ℕ, _+_, _*_, _-_, _≤_, _<_}
 use native.Mathlib.Omega.{arith}
 use lib.Dec.{leb, eqb}
 use lib.ListN.{length, take, drop, length-drop, drop-of-length-le}
@@ -23,6 +23,7 @@ use Rattle.record.specs.declared.Checked.the-variants as checked
 use Rattle.record.specs.Texts.{measured, fieldsFrom, tupleTextFrom}
 use Rattle.record.specs.Parts.{Head}
 use Rattle.record.proofs.Equations.{kind-full}
+use Rattle.record.proofs.Walk.{rest-length, body-length}
 use Rattle.record.specs.Says.{Says, NameEnds, ListIs}
 
 -- a part of what is left behind `at` is a part of all
@@ -81,12 +82,15 @@ module _ (b : List ℕ) (at : ℕ) (sort : Sort) (n : ℕ) (p : Head (take (leng
     listed : (f : Fields → List ℕ → Option Declaration) → k ≡ 0x12 → listFrom 4 sort (drop at b) f ≡ given (decodeFields 4 sort (take (n - 6) (drop 6 (drop at b)))) (λ fs. f fs (drop (at + n) b))
     listed f y = rw (there b at n p k z e, y, drop-drop n at b)
 
-    pub list-is : (s : ℕ) → k ≡ 0x12 → at ≤ length b → s ≡ measured (tupleTextFrom sort 32 (take (n - 6) (drop 6 (take (length b - at) (drop at b))))) → ListIs b at sort (record { from = at + 6; to = at + n; text = s })
+    pub list-is : (s : ℕ) → k ≡ 0x12 → at ≤ length b → s ≡ measured (tupleTextFrom sort 32 (take (n - 6) (drop 6 (take (length b - at) (drop at b))))) → s ≤ 2 * length (take (n - 6) (drop 6 (take (length b - at) (drop at b)))) + 2 → ListIs b at sort (record { from = at + 6; to = at + n; text = s })
     unfolding tupleTextFrom measured
-    list-is s y h f = go (decodeFields 4 sort (take (n - 6) (drop 6 (drop at b)))) refl (rw (part-rest, fields-decode) at f)
+    list-is s y h f m = go (decodeFields 4 sort (take (n - 6) (drop 6 (drop at b)))) refl (rw (part-rest, fields-decode) at f)
       where
         inner : at + n ≤ length b
         inner = omega (arith, head-here b at n p .inside, length-drop at b)
+
+        narrow : s ≤ 2 * length b + 2
+        narrow = omega (arith, body-length (take (length b - at) (drop at b)) n (p .inside), rest-length b at, p .inside)
 
         go : (o : Option Fields) → decodeFields 4 sort (take (n - 6) (drop 6 (drop at b))) ≡ o → s ≡ measured (onOption (λ fs. kindText (Kind.tuple (kindsOf fs))) o)
             → ListIs b at sort (record { from = at + 6; to = at + n; text = s })
@@ -96,7 +100,7 @@ module _ (b : List ℕ) (at : ℕ) (sort : Sort) (n : ℕ) (p : Head (take (leng
           none = λ w. absurd (omega (arith, kind-full (Kind.tuple (kindsOf fs))));
           some = λ _. record {
             fs = fs;
-            said = record { there = rw (← (part-of b at n)) q; long = x; order = omega arith; inside = inner };
+            said = record { there = rw (← (part-of b at n)) q; long = x; small = narrow; order = omega arith; inside = inner };
             goes = λ g. listed g y ∙ rw q;
           };
         }

@@ -3,7 +3,7 @@
 use mathlib.Core.Path.{_≡_}
 use mathlib.Core.List.{List}
 use mathlib.Core.Option.{Option, none, some}
-use Prim.Native.Nat.{ℕ, _+_, _-_, _≤_}
+use Prim.Native.Nat.{ℕ, _+_, _*_, _-_, _≤_}
 use lib.ListN.{length, take, drop}
 use Rattle.kinds.specs.Kind.{Kind, kindText}
 use Rattle.model.specs.declared.Sort.{Sort}
@@ -28,6 +28,7 @@ pub record NameSaid (b : List ℕ) (s : Spot) (nm : List ℕ) : Type 0 where
 pub record ListSaid (b : List ℕ) (sort : Sort) (l : Measured) (fs : Fields) : Type 0 where
   pub there : decodeFields 4 sort (take (l .to - l .from) (drop (l .from) b)) ≡ some fs
   pub long : l .text ≡ length (kindText (Kind.tuple (kindsOf fs)))
+  pub small : l .text ≤ 2 * length b + 2
   pub order : l .from ≤ l .to
   pub inside : l .to ≤ length b
 

@@ -72,7 +72,7 @@ loop-again c = suffixes-next _ _ _ _ _ _ (c .before .before .before .before .bef
 
 -- src/lib.rt:195:1
 same-length : tie.Need-same-length Inv-loop μ-loop
-same-length c = c .before .loop .inv .size
+same-length c = c .before .loop .inv .run .size
 
 -- src/lib.rt:195:1
 returns : tie.Need-returns Inv-loop μ-loop
