@@ -13,12 +13,19 @@ use plain::abi::Descriptor;
 use std::hint::black_box;
 use std::time::Instant;
 
-const ROUNDS: usize = 31;
-const SAMPLE_NS: f64 = 2_000_000.0;
+const ROUNDS: usize = 101;
+const SAMPLE_NS: f64 = 500_000.0;
 const MOST_RECORD: usize = 40_960;
 
-/// Medians in nanoseconds for one call, of works that each make `calls` calls; by turns.
-fn medians<const N: usize>(calls: usize, mut works: [&mut dyn FnMut(); N]) -> [f64; N] {
+/// The nanoseconds of one call: the median of the rounds, and the best of them.
+#[derive(Clone, Copy)]
+struct Spent {
+    median: f64,
+    best: f64,
+}
+
+/// What a call takes in works that each make `calls` calls; by turns.
+fn spent<const N: usize>(calls: usize, mut works: [&mut dyn FnMut(); N]) -> [Spent; N] {
     let passes = works.each_mut().map(|work| {
         let once = time(&mut || work());
         (SAMPLE_NS / once.max(1.0)).clamp(1.0, 100_000.0) as usize
@@ -32,7 +39,7 @@ fn medians<const N: usize>(calls: usize, mut works: [&mut dyn FnMut(); N]) -> [f
     }
     samples.map(|mut s| {
         s.sort_by(f64::total_cmp);
-        s[ROUNDS / 2]
+        Spent { median: s[ROUNDS / 2], best: s[0] }
     })
 }
 
@@ -52,10 +59,13 @@ fn each<'a>(call: &'a Call, inputs: &'a [Vec<u8>], buffer: &'a mut [u8]) -> impl
     }
 }
 
-fn row(what: &str, inputs: &[Vec<u8>], [rust, this]: [f64; 2]) {
-    let bytes = inputs.iter().map(Vec::len).sum::<usize>() / inputs.len();
-    let (count, ratio) = (inputs.len(), rust / this);
-    println!("{what:44} {count:5} {bytes:6} {rust:10.0} {this:10.0} {ratio:7.2}");
+fn row(what: &str, inputs: &[Vec<u8>], [rust, this]: [Spent; 2]) {
+    let (count, bytes) = (inputs.len(), inputs.iter().map(Vec::len).sum::<usize>() / inputs.len());
+    print!("{what:40} {count:5} {bytes:6}");
+    for (rust, this) in [(rust.median, this.median), (rust.best, this.best)] {
+        print!(" {rust:10.0} {this:8.0} {:6.2}", rust / this);
+    }
+    println!();
 }
 
 fn reading(what: &str, texts: &[Vec<u8>]) {
@@ -67,7 +77,7 @@ fn reading(what: &str, texts: &[Vec<u8>]) {
         }
     };
     let mut this = each(&READERS[0], texts, &mut buffer);
-    row(what, texts, medians(texts.len(), [&mut rust, &mut this]));
+    row(what, texts, spent(texts.len(), [&mut rust, &mut this]));
 }
 
 fn record(text: &[u8]) -> Vec<u8> {
@@ -100,8 +110,8 @@ fn writing(what: &str, texts: &[Vec<u8>]) {
             }
         };
         let mut this = each(call, &records, &mut buffer);
-        let medians = medians(texts.len(), [&mut rust, &mut this]);
-        row(&format!("{}, {what}", call.name), &texts, medians);
+        let spent = spent(texts.len(), [&mut rust, &mut this]);
+        row(&format!("{}, {what}", call.name), &texts, spent);
     }
 }
 
@@ -167,13 +177,13 @@ fn slowest() {
         ("32 deep and named, again and again", filled(4096, "function f(", &named, "int)")),
         ("fields 32 deep", deep("int,", ")")),
         ("fields 32 deep, each tuple named", deep("int,", ")a")),
-        ("empty tuples 32 deep, each tuple named", deep("(),", ")a")),
+        ("empty tuples 31 deep, each tuple named", filled(4096, &format!("function f({}", "(".repeat(31)), "(),", &format!("int{})", ")a".repeat(31)))),
         ("fields 32 deep, long names", deep("int,", &format!("){}", "n".repeat(60)))),
         ("fields 32 deep, the last name refused", deep("int,", ")a b")),
     ];
     let ordinary = [long(4096)];
     let mut worst = (0.0, "");
-    println!("\n{:44} {:>10} {:>10} {:>7}", "texts of 4,096 bytes, reading", "Rust", "this", "times");
+    println!("\n{:40} {:>10} {:>8} {:>6}", "texts of 4,096 bytes, reading, best", "Rust", "this", "times");
     for (what, text) in &texts {
         assert_eq!(text.len(), 4096);
         let (mut a, mut b) = (vec![0; MOST_RECORD], vec![0; MOST_RECORD]);
@@ -181,9 +191,9 @@ fn slowest() {
         let mut rust = || drop(black_box(Descriptor::parse_declaration(black_box(string))));
         let mut plain = each(&READERS[0], &ordinary, &mut a);
         let mut slow = each(&READERS[0], std::slice::from_ref(text), &mut b);
-        let [rust, plain, slow] = medians(1, [&mut rust, &mut plain, &mut slow]);
+        let [rust, plain, slow] = spent(1, [&mut rust, &mut plain, &mut slow]).map(|s| s.best);
         let times = slow / plain;
-        println!("{what:44} {rust:10.0} {slow:10.0} {times:7.2}");
+        println!("{what:40} {rust:10.0} {slow:8.0} {times:6.2}");
         if times > worst.0 {
             worst = (times, what);
         }
@@ -208,8 +218,9 @@ fn proportion() {
         assert_eq!(ask(call, &whole[0], &mut a).0, 0);
         let mut long = each(call, &whole, &mut a);
         let mut short = each(call, &tenth, &mut b);
-        let [long, short] = medians(1, [&mut long, &mut short]);
-        println!("\ncanonical of a record of 40,960 bytes {long:.0} ns, of 4,096 bytes {short:.0} ns: {:.2} times", long / short);
+        let [long, short] = spent(1, [&mut long, &mut short]).map(|s| s.best);
+        println!("\ncanonical, best: a record of 40,960 bytes {long:.0} ns, of 4,096 bytes {short:.0} ns");
+        println!("{:.2} times the time for ten times the bytes", long / short);
     }
 }
 
@@ -220,7 +231,9 @@ fn main() {
     let long = [500, 1000, 2000, 4096].map(long);
     let deep = [format!("function f({}uint256{})", "(".repeat(32), ")".repeat(32)).into_bytes()];
     let suffixes = [filled(4096, "function f(uint", "[]", ")"), filled(4096, "function f(uint", "[3]", ")")];
-    println!("{:44} {:>5} {:>6} {:>10} {:>10} {:>7}", "ns for one call, median", "texts", "bytes", "Rust", "this", "ratio");
+    print!("{:40} {:>5} {:>6}", "ns for one call", "texts", "bytes");
+    println!("{0:>11} {1:>8} {2:>6}{0:>11} {1:>8} {2:>6}", "Rust", "this", "ratio");
+    println!("{:52} {:>26} {:>26}", "", "median", "best");
     reading("reading, ordinary", &ordinary);
     reading("reading, long", &long);
     reading("reading, 32 deep", &deep);
