@@ -192,26 +192,28 @@ impl Maker {
 
     /// Where a blank must stand; now and then there is none.
     fn blank(&mut self) {
-        match self.random.below(40) {
+        match self.random.below(80) {
             0 => (),
-            1..=4 => self.any_blank(),
+            1..=8 => self.any_blank(),
             _ => self.put(" "),
         }
         self.gap();
     }
 
-    /// A number, near the limits more often than not.
-    fn number(&mut self, most: u64) {
+    /// A number from `least` to `most` in some spelling; now and then a bad one.
+    fn number(&mut self, least: u64, most: u64) {
         if self.loose {
-            let sign = self.random.of(&["", "", "", "+", "0", "00", "+0", "-", "++"]);
+            let sign = self.random.of(&["", "", "+", "0", "+00"]);
             self.put(sign);
         }
-        let n = match self.random.below(12) {
+        let n = match self.random.below(40) {
             0 => most as u128 + 1,
-            1 => most as u128,
-            2 => (1 << 64) + self.random.below(2) as u128,
+            1 => least.saturating_sub(1) as u128,
+            2 => (1 << 64) + self.random.below(9) as u128,
             3 => self.random.next() as u128,
-            _ => self.random.below(most.min(12) as usize + 1) as u128,
+            4 => return self.put("-1"),
+            5..=9 => most as u128,
+            _ => (least + self.random.below(12) as u64) as u128,
         };
         self.put(&n.to_string());
     }
@@ -221,17 +223,17 @@ impl Maker {
             0 | 1 => {
                 let word = self.random.of(&["int", "uint"]);
                 self.put(word);
-                if self.random.once_in(8) {
-                    self.number(256);
+                if self.random.once_in(20) {
+                    self.number(8, 256);
                 } else {
-                    let zero = if self.loose { self.random.of(&["", "+", "0", "+00"]) } else { "" };
+                    let sign = if self.loose { self.random.of(&["", "+", "0", "+00"]) } else { "" };
                     let width = 8 * (1 + self.random.below(32));
-                    self.put(&format!("{zero}{width}"));
+                    self.put(&format!("{sign}{width}"));
                 }
             }
             2 => {
                 self.put("bytes");
-                self.number(32);
+                self.number(1, 32);
             }
             _ => {
                 let word = self.random.of(&WORDS);
@@ -241,7 +243,7 @@ impl Maker {
         while self.random.once_in(4) {
             self.put("[");
             if self.random.once_in(2) {
-                self.number(u64::MAX);
+                self.number(0, u64::MAX);
             }
             self.put("]");
         }
@@ -255,7 +257,7 @@ impl Maker {
             self.gap();
             self.put("[");
             if self.random.once_in(2) {
-                self.number(u64::MAX);
+                self.number(0, u64::MAX);
             }
             self.gap();
             self.put("]");
@@ -273,7 +275,7 @@ impl Maker {
         if self.random.once_in(3) {
             self.blank();
             let other = self.random.of(&["memory", "calldata", "indexed"]);
-            let word = if self.random.once_in(6) { other } else { mark };
+            let word = if self.random.once_in(9) { other } else { mark };
             self.put(word);
         }
         if self.random.once_in(2) {
