@@ -13,8 +13,8 @@ use plain::abi::Descriptor;
 use std::hint::black_box;
 use std::time::Instant;
 
-const ROUNDS: usize = 101;
-const SAMPLE_NS: f64 = 500_000.0;
+const ROUNDS: usize = 41;
+const SAMPLE_NS: f64 = 2_000_000.0;
 const MOST_RECORD: usize = 40_960;
 
 /// The nanoseconds of one call: the median of the rounds, and the best of them.

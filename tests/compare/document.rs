@@ -72,11 +72,11 @@ pub fn copied(message: &str) -> String {
 
 // --- records --------------------------------------------------------------------------
 
-/// A well-formed record: its kind, its name if it has one, and its texts. A field's kind
+/// A well-formed record: its kind, its name (none is empty), and its texts. A field's kind
 /// text is its canonical text here.
 pub struct Formed<'a> {
     pub kind: u16,
-    pub name: Option<&'a [u8]>,
+    pub name: &'a [u8],
     pub canonical: Vec<u8>,
     pub outputs: Vec<u8>,
 }
@@ -98,7 +98,7 @@ pub fn formed(record: &[u8]) -> Option<Formed<'_>> {
     let (mut canonical, mut outputs) = (vec![], vec![]);
     if kind == FIELD {
         let name = field(body, false, 0, &mut canonical)?;
-        return Some(Formed { kind, name: Some(name), canonical, outputs });
+        return Some(Formed { kind, name, canonical, outputs });
     }
     let most = match kind {
         FUNCTION | CONSTRUCTOR => 3,
@@ -112,11 +112,10 @@ pub fn formed(record: &[u8]) -> Option<Formed<'_>> {
             return None;
         }
     }
-    let mut name = None;
+    let mut name = &[][..];
     if kind != CONSTRUCTOR {
-        let word = self::name(body).filter(|word| !word.is_empty())?;
-        canonical.extend(word);
-        name = Some(word);
+        name = word(body).filter(|name| !name.is_empty())?;
+        canonical.extend(name);
     }
     list(body, kind == EVENT, &mut canonical)?;
     if kind == FUNCTION {
@@ -141,11 +140,11 @@ fn number(rest: &mut &[u8]) -> Option<u16> {
 }
 
 /// A name, perhaps empty.
-fn name<'a>(rest: &mut &'a [u8]) -> Option<&'a [u8]> {
-    let (kind, word) = next(rest)?;
+fn word<'a>(rest: &mut &'a [u8]) -> Option<&'a [u8]> {
+    let (kind, name) = next(rest)?;
     let lettered = |b: &u8| b.is_ascii_alphanumeric() || matches!(b, b'$' | b'_');
-    let digit_first = word.first().is_some_and(u8::is_ascii_digit);
-    (kind == 0x11 && word.iter().all(lettered) && !digit_first).then_some(word)
+    let digit_first = name.first().is_some_and(u8::is_ascii_digit);
+    (kind == 0x11 && name.iter().all(lettered) && !digit_first).then_some(name)
 }
 
 fn list(rest: &mut &[u8], event: bool, out: &mut Vec<u8>) -> Option<()> {
@@ -178,7 +177,7 @@ fn fields(mut body: &[u8], event: bool, nested: usize, out: &mut Vec<u8>) -> Opt
 /// The body of a field; its kind's text is written and its name handed back.
 fn field<'a>(body: &mut &'a [u8], event: bool, nested: usize, out: &mut Vec<u8>) -> Option<&'a [u8]> {
     let mark = number(body)?;
-    let name = name(body)?;
+    let name = word(body)?;
     if mark > event as u16 || event && mark == 0 && name == b"indexed" {
         return None;
     }

@@ -76,22 +76,19 @@ impl Compare {
 
     /// A call with rooms 0, one short, exact and one over; with a few if it refuses.
     fn check(&mut self, call: &Call, input: &[u8], wanted: &Wanted) {
-        match *wanted {
+        let (rooms, output, answer) = match *wanted {
             Wanted::Output(output) => {
-                self.count(call, 0);
                 let n = output.len();
-                let first = if n < 2 { 1 } else { 0 };
-                let rooms = [0, n.wrapping_sub(1), n, n + 1];
-                for room in &rooms[if n == 0 { 2 } else { first }..] {
-                    self.lend(call, input, *room, output, (0, n));
-                }
+                ([0, n.saturating_sub(1), n, n + 1], output, (0, n))
             }
             Wanted::Refusal(number, position) => {
-                self.count(call, number);
-                for room in [0, input.len() % 200, 10 * input.len().min(100)] {
-                    self.lend(call, input, room, &[], (number, position));
-                }
+                let n = input.len();
+                ([0, 1, n % 200, 10 * n.min(100)], &[][..], (number, position))
             }
+        };
+        self.count(call, answer.0);
+        for room in rooms {
+            self.lend(call, input, room, output, answer);
         }
     }
 
@@ -206,29 +203,26 @@ impl Compare {
     fn record(&mut self, record: &[u8]) {
         self.records += 1;
         let formed = document::formed(record);
-        let wrong = || Wanted::Refusal(15, 0);
-        let mut signature = vec![];
+        let signature = formed.as_ref().map(|f| [&f.canonical, &b":"[..], &f.outputs].concat());
+        let (wrong, none) = (|| Wanted::Refusal(15, 0), || Wanted::Refusal(16, 0));
         let wanted = match &formed {
             None => [wrong(), wrong(), wrong(), wrong()],
-            Some(f) if f.kind == document::FIELD => {
-                [wrong(), wrong(), Wanted::Output(&f.canonical), Wanted::Output(f.name.unwrap())]
-            }
             Some(f) => {
-                let none = || Wanted::Refusal(16, 0);
-                let canonical = f.name.map_or_else(none, |_| Wanted::Output(&f.canonical));
-                let name = f.name.map_or_else(none, Wanted::Output);
-                if f.kind == document::FUNCTION {
-                    signature = [&f.canonical[..], b":", &f.outputs].concat();
-                    [canonical, Wanted::Output(&signature), wrong(), name]
-                } else {
-                    [canonical, none(), wrong(), name]
+                let canonical = Wanted::Output(&f.canonical);
+                let name = Wanted::Output(f.name);
+                match f.kind {
+                    document::FUNCTION => {
+                        [canonical, Wanted::Output(signature.as_ref().unwrap()), wrong(), name]
+                    }
+                    document::CONSTRUCTOR => [none(), none(), wrong(), none()],
+                    document::FIELD => [wrong(), wrong(), canonical, name],
+                    _ => [canonical, none(), wrong(), name],
                 }
             }
         };
         for (call, wanted) in WRITERS.iter().zip(&wanted) {
             self.check(call, record, wanted);
         }
-        drop(signature);
     }
 
     /// Outcomes by call and refusal number.

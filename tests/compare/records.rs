@@ -154,8 +154,7 @@ impl Maker<'_> {
     }
 }
 
-/// An event whose record has just `size` bytes, as many as that of `fields` without names
-/// and a longer name would have.
+/// An event's record of `size` bytes: many fields, and a name that fills what they leave.
 pub fn of_size(size: usize) -> Vec<u8> {
     let field: &[u8] = b"\x16\0\0\0\x10\0\0\0\x06\0\0\0\x11\0\x08\0\0\0\x02\0\x40\0";
     let front = 8 + 6 + 1 + 6;

@@ -68,12 +68,26 @@ fn blanks(take: &mut impl FnMut(&[u8])) {
     }
 }
 
-/// Pairs of edge bytes at several places: mostly not UTF-8.
+/// Edges of UTF-8 at several places: pairs of edge bytes, and code points at the limits in
+/// two to four bytes, overlong forms, surrogates and too large ones among them; whole and cut.
 fn edge_bytes(take: &mut impl FnMut(&[u8])) {
-    for (a, b) in EDGE_BYTES.iter().flat_map(|a| EDGE_BYTES.iter().map(move |b| (*a, *b))) {
+    let mut put = |bytes: &[u8]| {
         for (before, behind) in [("", ""), ("function f(int", " a)"), ("uint", "[]")] {
-            take(&[before.as_bytes(), &[a, b], behind.as_bytes()].concat());
-            take(&[before.as_bytes(), &[a, b, 0x80, 0x80], behind.as_bytes()].concat());
+            take(&[before.as_bytes(), bytes, behind.as_bytes()].concat());
+        }
+    };
+    for (a, b) in EDGE_BYTES.iter().flat_map(|a| EDGE_BYTES.iter().map(move |b| (*a, *b))) {
+        put(&[a, b]);
+        put(&[a, b, 0x80, 0x80]);
+    }
+    for limit in [0x00, 0x80, 0x800, 0xD800, 0xE000, 0x1_0000, 0x11_0000, 0x20_0000_u32] {
+        for code in [limit.saturating_sub(1), limit, limit + 1] {
+            let tail = |shift: u32| 0x80 | (code >> shift & 0x3F) as u8;
+            put(&[0xC0 | (code >> 6 & 0x1F) as u8, tail(0)]);
+            put(&[0xE0 | (code >> 12 & 0x0F) as u8, tail(6), tail(0)]);
+            put(&[0xF0 | (code >> 18 & 0x07) as u8, tail(12), tail(6), tail(0)]);
+            put(&[0xE0 | (code >> 12 & 0x0F) as u8, tail(6)]);
+            put(&[0xF0 | (code >> 18 & 0x07) as u8, tail(12), tail(6)]);
         }
     }
 }
@@ -267,7 +281,8 @@ impl Maker {
     /// A field with perhaps a mark, of those that may stand there or of others.
     fn field(&mut self, mark: &str) {
         self.gap();
-        if self.deep > 0 && self.random.once_in(if self.deep > 4 { 2 } else { 5 }) {
+        let opens = if self.deep > 4 { !self.random.once_in(100) } else { self.random.once_in(5) };
+        if self.deep > 0 && opens {
             self.tuple();
         } else {
             self.elementary();
@@ -292,7 +307,7 @@ impl Maker {
 
     fn list(&mut self, mark: &str) {
         self.put("(");
-        let fields = self.random.of(&[&0, &1, &1, &2, &2, &3, &5]);
+        let fields = if self.deep > 4 { &1 } else { self.random.of(&[&0, &1, &1, &2, &2, &3, &5]) };
         for i in 0..*fields {
             if i > 0 {
                 self.put(",");
@@ -354,8 +369,9 @@ impl Maker {
         self.out.clear();
         self.loose = self.random.once_in(2);
         self.deep = *self.random.of(&[&0, &2, &2, &3, &4]);
-        if self.random.once_in(300) {
-            self.deep = 34;
+        if self.random.once_in(200) {
+            // The first 30 to 34 tuples stand each in the one before.
+            self.deep = 4 + 30 + self.random.below(5);
         }
         if self.random.once_in(8) {
             self.elementary();
