@@ -15,8 +15,7 @@ macro_rules! calls {
                 input: *const u8, length: usize, output: *mut u8, room: usize, value: *mut usize,
             ) -> u32;)*)*
         }
-        $(#[allow(dead_code)]
-        pub static $table: &[Call] = &[$(Call { name: $name, entry: $function }),*];)*
+        $(pub static $table: &[Call] = &[$(Call { name: $name, entry: $function }),*];)*
     };
 }
 
@@ -28,17 +27,11 @@ calls! {
         "event" geusomin_parse_event
         "error" geusomin_parse_error
         "kind" geusomin_parse_kind;
-}
-#[cfg(records)]
-calls! {
     WRITERS:
         "canonical" geusomin_canonical
         "signature" geusomin_signature
         "kind_text" geusomin_kind_text
         "name" geusomin_copy_name;
-}
-#[cfg(messages)]
-calls! {
     MESSAGES:
         "message:general" geusomin_message_declaration
         "message:function" geusomin_message_function
@@ -46,10 +39,6 @@ calls! {
         "message:event" geusomin_message_event
         "message:error" geusomin_message_error;
 }
-#[cfg(not(records))]
-pub static WRITERS: &[Call] = &[];
-#[cfg(not(messages))]
-pub static MESSAGES: &[Call] = &[];
 
 /// Number 0 with the length written, or a refusal's number with its position.
 pub type Answer = (u32, usize);
