@@ -59,16 +59,18 @@ fn each<'a>(call: &'a Call, inputs: &'a [Vec<u8>], buffer: &'a mut [u8]) -> impl
     }
 }
 
-fn row(what: &str, inputs: &[Vec<u8>], [rust, this]: [Spent; 2]) {
+/// Prints a row and hands back how many times as fast as the Rust this is, by the medians.
+fn row(what: &str, inputs: &[Vec<u8>], [rust, this]: [Spent; 2]) -> f64 {
     let (count, bytes) = (inputs.len(), inputs.iter().map(Vec::len).sum::<usize>() / inputs.len());
     print!("{what:40} {count:5} {bytes:6}");
     for (rust, this) in [(rust.median, this.median), (rust.best, this.best)] {
         print!(" {rust:10.0} {this:8.0} {:6.2}", rust / this);
     }
     println!();
+    rust.median / this.median
 }
 
-fn reading(what: &str, texts: &[Vec<u8>]) {
+fn reading(what: &str, texts: &[Vec<u8>]) -> f64 {
     let strings: Vec<&str> = texts.iter().map(|t| std::str::from_utf8(t).unwrap()).collect();
     let mut buffer = vec![0; MOST_RECORD];
     let mut rust = || {
@@ -77,7 +79,7 @@ fn reading(what: &str, texts: &[Vec<u8>]) {
         }
     };
     let mut this = each(&READERS[0], texts, &mut buffer);
-    row(what, texts, spent(texts.len(), [&mut rust, &mut this]));
+    row(&format!("reading, {what}"), texts, spent(texts.len(), [&mut rust, &mut this]))
 }
 
 fn record(text: &[u8]) -> Vec<u8> {
@@ -88,12 +90,13 @@ fn record(text: &[u8]) -> Vec<u8> {
     buffer
 }
 
-/// Canonical texts and signatures of those that have one.
-fn writing(what: &str, texts: &[Vec<u8>]) {
+/// Canonical texts and signatures of those that have one; hands back the first's ratio.
+fn writing(what: &str, texts: &[Vec<u8>]) -> f64 {
     let descriptor = |t: &Vec<u8>| Descriptor::parse_declaration(std::str::from_utf8(t).unwrap()).unwrap();
     let texts: Vec<Vec<u8>> = texts.iter().filter(|t| !t.starts_with(b"constructor")).cloned().collect();
     let functions: Vec<Vec<u8>> = texts.iter().filter(|t| t.starts_with(b"function")).cloned().collect();
     let mut buffer = vec![0; MOST_RECORD];
+    let mut ratios = vec![];
     for (call, texts) in WRITERS.iter().zip([texts, functions]) {
         let descriptors: Vec<Descriptor> = texts.iter().map(descriptor).collect();
         let records: Vec<Vec<u8>> = texts.iter().map(|t| record(t)).collect();
@@ -111,8 +114,9 @@ fn writing(what: &str, texts: &[Vec<u8>]) {
         };
         let mut this = each(call, &records, &mut buffer);
         let spent = spent(texts.len(), [&mut rust, &mut this]);
-        row(&format!("{}, {what}", call.name), &texts, spent);
+        ratios.push(row(&format!("{}, {what}", call.name), &texts, spent));
     }
+    ratios[0]
 }
 
 /// `before`, `pad` as often as fits, and `behind`, with blanks up to `size` bytes.
@@ -144,11 +148,12 @@ fn refused(ordinary: &[Vec<u8>]) -> Vec<Vec<u8>> {
     all.filter(|t| Descriptor::parse_declaration(t).is_err()).map(String::into_bytes).collect()
 }
 
-/// Texts of 4,096 bytes that might be slow, each beside an ordinary one of that length.
-fn slowest() {
-    let deep = |inside: &str, close: &str| {
-        let open = format!("function f({}", "(".repeat(32));
-        let behind = format!("int{})", close.repeat(32));
+/// Texts of 4,096 bytes that might be slow, each beside an ordinary one of that length; hands
+/// back how many times that one's time the slowest takes, by the best rounds.
+fn slowest() -> f64 {
+    let deep = |depth: usize, inside: &str, close: &str| {
+        let open = format!("function f({}", "(".repeat(depth));
+        let behind = format!("int{})", close.repeat(depth));
         filled(4096, &open, inside, &behind)
     };
     let nested = format!("{}{},", "(".repeat(32), ")".repeat(32));
@@ -175,14 +180,14 @@ fn slowest() {
         ("named tuples", filled(4096, "function f(", "()a,", "int)")),
         ("32 deep, again and again", filled(4096, "function f(", &nested, "int)")),
         ("32 deep and named, again and again", filled(4096, "function f(", &named, "int)")),
-        ("fields 32 deep", deep("int,", ")")),
-        ("fields 32 deep, each tuple named", deep("int,", ")a")),
-        ("empty tuples 31 deep, each tuple named", filled(4096, &format!("function f({}", "(".repeat(31)), "(),", &format!("int{})", ")a".repeat(31)))),
-        ("fields 32 deep, long names", deep("int,", &format!("){}", "n".repeat(60)))),
-        ("fields 32 deep, the last name refused", deep("int,", ")a b")),
+        ("fields 32 deep", deep(32, "int,", ")")),
+        ("fields 32 deep, each tuple named", deep(32, "int,", ")a")),
+        ("empty tuples 31 deep, each tuple named", deep(31, "(),", ")a")),
+        ("fields 32 deep, long names", deep(32, "int,", &format!("){}", "n".repeat(60)))),
+        ("fields 32 deep, the last name refused", deep(32, "int,", ")a b")),
     ];
     let ordinary = [long(4096)];
-    let mut worst = (0.0, "");
+    let mut worst: f64 = 0.0;
     println!("\n{:40} {:>10} {:>8} {:>6}", "texts of 4,096 bytes, reading, best", "Rust", "this", "times");
     for (what, text) in &texts {
         assert_eq!(text.len(), 4096);
@@ -194,11 +199,9 @@ fn slowest() {
         let [rust, plain, slow] = spent(1, [&mut rust, &mut plain, &mut slow]).map(|s| s.best);
         let times = slow / plain;
         println!("{what:40} {rust:10.0} {slow:8.0} {times:6.2}");
-        if times > worst.0 {
-            worst = (times, what);
-        }
+        worst = worst.max(times);
     }
-    println!("slowest: {:.2} times an ordinary text of that length ({})", worst.0, worst.1);
+    worst
 }
 
 /// The canonical call on the longest record and on one of a tenth of that length.
@@ -234,15 +237,16 @@ fn main() {
     print!("{:40} {:>5} {:>6}", "ns for one call", "texts", "bytes");
     println!("{0:>11} {1:>8} {2:>6}{0:>11} {1:>8} {2:>6}", "Rust", "this", "ratio");
     println!("{:52} {:>26} {:>26}", "", "median", "best");
-    reading("reading, ordinary", &ordinary);
-    reading("reading, long", &long);
-    reading("reading, 32 deep", &deep);
-    reading("reading, thousands of suffixes", &suffixes);
-    reading("reading, refused", &refused(&ordinary));
-    writing("ordinary", &ordinary);
-    writing("long", &long);
-    writing("32 deep", &deep);
-    writing("thousands of suffixes", &suffixes);
+    let read = reading("ordinary", &ordinary);
+    reading("refused", &refused(&ordinary));
+    let written = writing("ordinary", &ordinary);
+    for (what, texts) in [("long", &long[..]), ("32 deep", &deep), ("thousands of suffixes", &suffixes)] {
+        reading(what, texts);
+        writing(what, texts);
+    }
     proportion();
-    slowest();
+    let slowest = slowest();
+    println!("\nordinary declarations, by the medians: reading {read:.2} times as fast as the Rust (wanted 3)");
+    println!("canonical {written:.2} times as fast (wanted 3)");
+    println!("slowest text of 4,096 bytes: {slowest:.2} times an ordinary one (wanted at most 20)");
 }

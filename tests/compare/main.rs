@@ -285,7 +285,8 @@ fn run(count: usize, seed: u64) -> bool {
         println!("listed: {times:>9} {}", rule.says());
     }
     let calls = READERS.len() + WRITERS.len() + MESSAGES.len();
-    println!("{calls} functions called {} times; {} records made up; seed {seed}", compare.asked, compare.records);
+    let (asked, records) = (compare.asked, compare.records);
+    println!("{calls} functions called {asked} times; {records} records made up; seed {seed}");
     println!("compare: {texts} texts, {} unlisted differences", compare.unlisted);
     compare.unlisted == 0
 }
