@@ -17,11 +17,25 @@ const ROUNDS: usize = 41;
 const SAMPLE_NS: f64 = 2_000_000.0;
 const MOST_RECORD: usize = 40_960;
 
-/// The nanoseconds of one call: the median of the rounds, and the best of them.
-#[derive(Clone, Copy)]
-struct Spent {
-    median: f64,
-    best: f64,
+/// The nanoseconds of one call, round by round.
+struct Spent(Vec<f64>);
+
+impl Spent {
+    fn median(&self) -> f64 {
+        let mut sorted = self.0.clone();
+        sorted.sort_by(f64::total_cmp);
+        sorted[sorted.len() / 2]
+    }
+
+    fn best(&self) -> f64 {
+        self.0.iter().copied().fold(f64::MAX, f64::min)
+    }
+
+    /// How many times this time the other is, by the median of the rounds: what slows the
+    /// machine slows both halves of a round.
+    fn ratio(&self, other: &Spent) -> f64 {
+        Spent(self.0.iter().zip(&other.0).map(|(this, other)| other / this).collect()).median()
+    }
 }
 
 /// What a call takes in works that each make `calls` calls; by turns.
@@ -30,17 +44,14 @@ fn spent<const N: usize>(calls: usize, mut works: [&mut dyn FnMut(); N]) -> [Spe
         let once = time(&mut || work());
         (SAMPLE_NS / once.max(1.0)).clamp(1.0, 100_000.0) as usize
     });
-    let mut samples = [(); N].map(|_| vec![]);
+    let mut spent = [(); N].map(|_| Spent(vec![]));
     for _ in 0..ROUNDS {
         for (i, work) in works.iter_mut().enumerate() {
             let all = time(&mut || (0..passes[i]).for_each(|_| work()));
-            samples[i].push(all / (passes[i] * calls) as f64);
+            spent[i].0.push(all / (passes[i] * calls) as f64);
         }
     }
-    samples.map(|mut s| {
-        s.sort_by(f64::total_cmp);
-        Spent { median: s[ROUNDS / 2], best: s[0] }
-    })
+    spent
 }
 
 fn time(work: &mut dyn FnMut()) -> f64 {
@@ -59,15 +70,13 @@ fn each<'a>(call: &'a Call, inputs: &'a [Vec<u8>], buffer: &'a mut [u8]) -> impl
     }
 }
 
-/// Prints a row and hands back how many times as fast as the Rust this is, by the medians.
+/// Prints a row and hands back how many times as fast as the Rust this is.
 fn row(what: &str, inputs: &[Vec<u8>], [rust, this]: [Spent; 2]) -> f64 {
     let (count, bytes) = (inputs.len(), inputs.iter().map(Vec::len).sum::<usize>() / inputs.len());
-    print!("{what:40} {count:5} {bytes:6}");
-    for (rust, this) in [(rust.median, this.median), (rust.best, this.best)] {
-        print!(" {rust:10.0} {this:8.0} {:6.2}", rust / this);
-    }
-    println!();
-    rust.median / this.median
+    let ratio = this.ratio(&rust);
+    print!("{what:40} {count:5} {bytes:6} {:9.0} {:7.0} {ratio:6.2}", rust.median(), this.median());
+    println!(" {:11.0} {:7.0} {:6.2}", rust.best(), this.best(), rust.best() / this.best());
+    ratio
 }
 
 fn reading(what: &str, texts: &[Vec<u8>]) -> f64 {
@@ -149,7 +158,7 @@ fn refused(ordinary: &[Vec<u8>]) -> Vec<Vec<u8>> {
 }
 
 /// Texts of 4,096 bytes that might be slow, each beside an ordinary one of that length; hands
-/// back how many times that one's time the slowest takes, by the best rounds.
+/// back how many times that one's time the slowest takes.
 fn slowest() -> f64 {
     let deep = |depth: usize, inside: &str, close: &str| {
         let open = format!("function f({}", "(".repeat(depth));
@@ -188,7 +197,7 @@ fn slowest() -> f64 {
     ];
     let ordinary = [long(4096)];
     let mut worst: f64 = 0.0;
-    println!("\n{:40} {:>10} {:>8} {:>6}", "texts of 4,096 bytes, reading, best", "Rust", "this", "times");
+    println!("\n{:40} {:>10} {:>8} {:>6}", "texts of 4,096 bytes, reading", "Rust", "this", "times");
     for (what, text) in &texts {
         assert_eq!(text.len(), 4096);
         let (mut a, mut b) = (vec![0; MOST_RECORD], vec![0; MOST_RECORD]);
@@ -196,9 +205,9 @@ fn slowest() -> f64 {
         let mut rust = || drop(black_box(Descriptor::parse_declaration(black_box(string))));
         let mut plain = each(&READERS[0], &ordinary, &mut a);
         let mut slow = each(&READERS[0], std::slice::from_ref(text), &mut b);
-        let [rust, plain, slow] = spent(1, [&mut rust, &mut plain, &mut slow]).map(|s| s.best);
-        let times = slow / plain;
-        println!("{what:40} {rust:10.0} {slow:8.0} {times:6.2}");
+        let [rust, plain, slow] = spent(1, [&mut rust, &mut plain, &mut slow]);
+        let times = plain.ratio(&slow);
+        println!("{what:40} {:10.0} {:8.0} {times:6.2}", rust.median(), slow.median());
         worst = worst.max(times);
     }
     worst
@@ -221,9 +230,10 @@ fn proportion() {
         assert_eq!(ask(call, &whole[0], &mut a).0, 0);
         let mut long = each(call, &whole, &mut a);
         let mut short = each(call, &tenth, &mut b);
-        let [long, short] = spent(1, [&mut long, &mut short]).map(|s| s.best);
-        println!("\ncanonical, best: a record of 40,960 bytes {long:.0} ns, of 4,096 bytes {short:.0} ns");
-        println!("{:.2} times the time for ten times the bytes", long / short);
+        let [long, short] = spent(1, [&mut long, &mut short]);
+        let (ratio, long, short) = (short.ratio(&long), long.median(), short.median());
+        println!("\ncanonical: a record of 40,960 bytes {long:.0} ns, of 4,096 bytes {short:.0} ns");
+        println!("{ratio:.2} times the time for ten times the bytes");
     }
 }
 
@@ -235,8 +245,8 @@ fn main() {
     let deep = [format!("function f({}uint256{})", "(".repeat(32), ")".repeat(32)).into_bytes()];
     let suffixes = [filled(4096, "function f(uint", "[]", ")"), filled(4096, "function f(uint", "[3]", ")")];
     print!("{:40} {:>5} {:>6}", "ns for one call", "texts", "bytes");
-    println!("{0:>11} {1:>8} {2:>6}{0:>11} {1:>8} {2:>6}", "Rust", "this", "ratio");
-    println!("{:52} {:>26} {:>26}", "", "median", "best");
+    println!("{0:>10} {1:>7} {2:>6}{0:>12} {1:>7} {2:>6}", "Rust", "this", "ratio");
+    println!("{:52} {:>24} {:>26}", "", "median", "best");
     let read = reading("ordinary", &ordinary);
     reading("refused", &refused(&ordinary));
     let written = writing("ordinary", &ordinary);
@@ -246,7 +256,7 @@ fn main() {
     }
     proportion();
     let slowest = slowest();
-    println!("\nordinary declarations, by the medians: reading {read:.2} times as fast as the Rust (wanted 3)");
+    println!("\nordinary declarations: reading {read:.2} times as fast as the Rust (wanted 3)");
     println!("canonical {written:.2} times as fast (wanted 3)");
     println!("slowest text of 4,096 bytes: {slowest:.2} times an ordinary one (wanted at most 20)");
 }
