@@ -3,6 +3,7 @@
 use libc::STDIN_FILENO;
 use libc::STDOUT_FILENO;
 use model::Answer;
+use model::Call;
 use model::Refusal;
 use text::Maybe;
 ghost use Prim.Native.Nat.{_+_, _≤_, _<_};
@@ -268,30 +269,116 @@ fn call_of(name: &[u8]) -> usize
     OTHER
 }
 
-// Whether the row has this record.
-fn says_record(row: &[u8], length: usize, out: &[u8]) -> bool {
+// Whether a field says this line, or that there is none, which is refusal 16.
+fn says_line(field: &[u8], answer: Answer, line: &[u8]) -> bool {
+    match answer {
+        Answer::Accepted { length } => {
+            if line.len() < length {
+                return false;
+            }
+            is_hex(field, &line[..length])
+        }
+        Answer::Refused {
+            refusal,
+            position: _,
+        } => refusal::number(refusal) == 16 && text::equal(field, b"-"),
+    }
+}
+
+// A kind's text may be twice as long as its record.
+const LINE: usize = 81920;
+
+fn says_kind(row: &[u8], record: &[u8]) -> bool {
+    let mut line = [0; LINE];
+    let answer = abi::kind_text(record, &mut line);
+    says_line(field(row, 4), answer, &line)
+}
+
+fn says_canonical(row: &[u8], record: &[u8]) -> bool {
+    let mut line = [0; LINE];
+    let answer = abi::canonical(record, &mut line);
+    says_line(field(row, 4), answer, &line)
+}
+
+fn says_signature(row: &[u8], record: &[u8]) -> bool {
+    let mut line = [0; LINE];
+    let answer = abi::signature(record, &mut line);
+    says_line(field(row, 5), answer, &line)
+}
+
+// Whether the row has the lines of this record.
+fn says_lines(row: &[u8], call: usize, record: &[u8]) -> bool {
+    if call == KIND {
+        return says_kind(row, record);
+    }
+    says_canonical(row, record) && says_signature(row, record)
+}
+
+// Whether the row has this record, and its lines.
+fn says_record(row: &[u8], call: usize, length: usize, out: &[u8]) -> bool {
     if out.len() < length {
         return false;
     }
-    text::equal(field(row, 2), b"ok") && is_hex(field(row, 3), &out[..length])
+    text::equal(field(row, 2), b"ok")
+        && is_hex(field(row, 3), &out[..length])
+        && says_lines(row, call, &out[..length])
 }
 
-// A row where the Rust panics has a number and a position too.
-fn is_refused(row: &[u8]) -> bool {
-    text::equal(field(row, 2), b"no") || text::equal(field(row, 2), b"panic")
+// The message call, for a reading call.
+fn ask_message(call: usize, text: &[u8], out: &mut [u8]) -> Answer {
+    match call {
+        GENERAL => message::message(Call::General, text, out),
+        FUNCTION => message::message(Call::Function, text, out),
+        CONSTRUCTOR => message::message(Call::Constructor, text, out),
+        EVENT => message::message(Call::Event, text, out),
+        _ => message::message(Call::Error, text, out),
+    }
 }
 
-// Whether the row has this number and position.
-fn says_refusal(row: &[u8], refusal: Refusal, position: usize) -> bool {
-    is_refused(row)
+fn is_ascii(s: &[u8]) -> bool {
+    let mut i = 0;
+    while i < s.len() {
+        if 128 <= s[i] {
+            return false;
+        }
+        i += 1;
+    }
+    true
+}
+
+// A message with a character beyond ASCII, which the Rust may escape, is left to tests/compare.
+fn says_words(field: &[u8], answer: Answer, line: &[u8]) -> bool {
+    says_line(field, answer, line) || !is_ascii(line)
+}
+
+fn says_message(row: &[u8], call: usize, text: &[u8]) -> bool {
+    if call == KIND {
+        return true;
+    }
+    let mut line = [0; 256];
+    let answer = ask_message(call, text, &mut line);
+    says_words(field(row, 5), answer, &line)
+}
+
+// A row where the Rust panics has a number and a position, but no message.
+fn is_refused(row: &[u8], call: usize, text: &[u8]) -> bool {
+    if text::equal(field(row, 2), b"panic") {
+        return true;
+    }
+    text::equal(field(row, 2), b"no") && says_message(row, call, text)
+}
+
+// Whether the row has this number and position, and the message.
+fn says_refusal(row: &[u8], call: usize, text: &[u8], refusal: Refusal, position: usize) -> bool {
+    is_refused(row, call, text)
         && is_number(field(row, 3), refusal::number(refusal) as u64)
         && is_number(field(row, 4), position as u64)
 }
 
-fn says(row: &[u8], answer: Answer, out: &[u8]) -> bool {
+fn says(row: &[u8], call: usize, text: &[u8], answer: Answer, out: &[u8]) -> bool {
     match answer {
-        Answer::Accepted { length } => says_record(row, length, out),
-        Answer::Refused { refusal, position } => says_refusal(row, refusal, position),
+        Answer::Accepted { length } => says_record(row, call, length, out),
+        Answer::Refused { refusal, position } => says_refusal(row, call, text, refusal, position),
     }
 }
 
@@ -319,7 +406,7 @@ fn replay_text(call: usize, text: &[u8], row: &[u8], out: &mut [u8]) -> Verdict 
         return Verdict::Differs;
     }
     let answer = ask(call, text, out);
-    judged(says(row, answer, out))
+    judged(says(row, call, text, answer, out))
 }
 
 // A text that is not decoded whole differs.

@@ -1,0 +1,78 @@
+-- Runs of the calls: what a call was lent, what it answered and what it left, in the form that its contract ensures; and what demand 3 says of them.
+-- Assumes nothing.
+use mathlib.Core.Path.{_≡_}
+use mathlib.Core.List.{List, [], _∷_, _++_}
+use mathlib.Core.Option.{some}
+use Prim.Native.Nat.{ℕ, _≤_}
+use lib.ListN.{length, take}
+use Rattle.kinds.specs.Bytes.{space}
+use Rattle.kinds.specs.Kind.{Prototype}
+use Rattle.model.specs.declared.Keyword.{Keyword}
+use Rattle.model.specs.declared.Call.{Call}
+use Rattle.model.specs.declared.Call.the-variants as call
+use Rattle.model.specs.declared.Answer.{Answer}
+use Rattle.model.specs.Tree.{Declaration, nameKinds}
+use Rattle.model.specs.Reading.{keywordText}
+use Rattle.model.specs.Record.{decode}
+use Rattle.model.specs.Line.{keywordIn}
+use Rattle.model.specs.Answer.{accepted, said, outcome, after, handed, refusalNumber}
+use Rattle.model.specs.Calls.{readOutput, canonicalOutput, nameOutput, AcceptedAs}
+
+-- a reading call on a text, which was lent `room` and left it as `left`
+pub record ReadRun (c : Call) (text room left : List ℕ) (r : Answer) : Type 0 where
+  pub says : said r ≡ outcome (length room) (readOutput c text)
+  pub leaves : left ≡ after room (readOutput c text)
+
+-- the canonical call on a record
+pub record CanonicalRun (b room left : List ℕ) (r : Answer) : Type 0 where
+  pub says : said r ≡ outcome (length room) (canonicalOutput b)
+  pub leaves : left ≡ after room (canonicalOutput b)
+
+-- the name call on a record
+pub record NameRun (b name : List ℕ) (refusal : ℕ) : Type 0 where
+  pub hands : name ≡ handed (nameOutput b)
+  pub tells : refusal ≡ refusalNumber (nameOutput b)
+
+-- "A text is accepted as a function, event or error if the general call or the call named for that keyword, lent enough, reads it so": with the
+-- name and kinds p; l is what the canonical call wrote of the record that was written
+pub record Filed (s : List ℕ) (p : Prototype) (l : List ℕ) : Type 0 where
+  pub reads : AcceptedAs s p
+  pub room : List ℕ
+  pub left : List ℕ
+  pub answer : Answer
+  pub n : ℕ
+  pub reading : ReadRun (reads .call) s room left answer
+  pub read : said answer ≡ accepted n
+  pub line-room : List ℕ
+  pub line-left : List ℕ
+  pub line-answer : Answer
+  pub m : ℕ
+  pub writing : CanonicalRun (take n left) line-room line-left line-answer
+  pub written : said line-answer ≡ accepted m
+  pub line : l ≡ take m line-left
+
+-- lists of texts, each with its name and kinds and its line at the same place
+pub data AllFiled : List (List ℕ) → List Prototype → List (List ℕ) → Type 0 where
+  no-text : AllFiled [] [] []
+  one-text : {s l : List ℕ} {p : Prototype} {ss ls : List (List ℕ)} {ps : List Prototype} → Filed s p l → AllFiled ss ps ls → AllFiled (s ∷ ss) (p ∷ ps) (l ∷ ls)
+
+-- lines "joined": end to end, with nothing between
+unfoldable pub endToEnd : List (List ℕ) → List ℕ
+endToEnd [] = []
+endToEnd (l ∷ ls) = l ++ endToEnd ls
+
+-- "keyword, one space and canonical text"
+unfoldable pub lineText : Keyword → List ℕ → List ℕ
+lineText k l = keywordText k ++ (space ∷ l)
+
+-- a run that read a line: "accepted by the general call, with the same name, kinds and line". The record says the same keyword, name and kinds, the
+-- name call hands that name back, and the canonical call, lent enough, writes that line
+pub record ReadBack (k : Keyword) (p : Prototype) (line left : List ℕ) (r : Answer) : Type 0 where
+  pub n : ℕ
+  pub read : said r ≡ accepted n
+  pub tree : Declaration
+  pub says : decode (take n left) ≡ some tree
+  pub keyword : keywordIn tree ≡ k
+  pub same : nameKinds tree ≡ some p
+  pub name : (nm : List ℕ) (refusal : ℕ) → NameRun (take n left) nm refusal → (nm ≡ p .name) × (refusal ≡ 0)
+  pub again : (room₁ left₁ : List ℕ) (r₁ : Answer) → length line ≤ length room₁ → CanonicalRun (take n left) room₁ left₁ r₁ → (said r₁ ≡ accepted (length line)) × (take (length line) left₁ ≡ line)

@@ -1,0 +1,41 @@
+// The calls that demand 3 speaks of, each with its contract in the form in which the theorems of proofs/Demand.antt take it: that it has that
+// form is what is proved here.
+use model::Answer;
+use model::Call;
+ghost use Rattle.demand.specs.Runs.{ReadRun, CanonicalRun, NameRun};
+
+pub fn parse_declaration(text: &[u8], record: &mut [u8]) -> Answer
+    ensures { λ r. ⌜ ReadRun Call.General (now (text .entry)) (now («record» .entry)) (now («record» .exit)) r ⌝ }
+{
+    declaration::parse_declaration(text, record)
+}
+
+pub fn parse_function(text: &[u8], record: &mut [u8]) -> Answer
+    ensures { λ r. ⌜ ReadRun Call.Function (now (text .entry)) (now («record» .entry)) (now («record» .exit)) r ⌝ }
+{
+    declaration::parse_function(text, record)
+}
+
+pub fn parse_event(text: &[u8], record: &mut [u8]) -> Answer
+    ensures { λ r. ⌜ ReadRun Call.Event (now (text .entry)) (now («record» .entry)) (now («record» .exit)) r ⌝ }
+{
+    declaration::parse_event(text, record)
+}
+
+pub fn parse_error(text: &[u8], record: &mut [u8]) -> Answer
+    ensures { λ r. ⌜ ReadRun Call.Error (now (text .entry)) (now («record» .entry)) (now («record» .exit)) r ⌝ }
+{
+    declaration::parse_error(text, record)
+}
+
+pub fn canonical(record: &[u8], text: &mut [u8]) -> Answer
+    ensures { λ r. ⌜ CanonicalRun (now («record» .entry)) (now (text .entry)) (now (text .exit)) r ⌝ }
+{
+    abi::canonical(record, text)
+}
+
+pub fn name<'a>(record: &'a [u8], refusal: &mut u32) -> &'a [u8]
+    ensures { λ r. ⌜ NameRun (now («record» .entry)) (now r) (now (refusal .exit)) ⌝ }
+{
+    abi::name(record, refusal)
+}
