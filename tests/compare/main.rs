@@ -1,0 +1,308 @@
+//! Sets the Rust original beside libgeusomin.a on generated texts and records.
+//! Usage: compare [COUNT] [SEED]. Exit status 1 if a difference is on no list.
+mod calls;
+mod document;
+mod original;
+mod random;
+mod records;
+mod texts;
+
+use calls::{ask, Answer, Call, MESSAGES, READERS, WRITERS};
+use original::{Said, Texts, KIND};
+use random::Random;
+use std::collections::BTreeMap;
+
+/// The differences that docs/DIFFERENCES.md lists and a text can show.
+#[derive(Clone, Copy, PartialEq, Eq, PartialOrd, Ord)]
+enum Rule {
+    TooLong,
+    NotUtf8,
+    TooDeep,
+    KindTuple,
+    Panic,
+    Escape,
+}
+
+impl Rule {
+    fn says(self) -> &'static str {
+        match self {
+            Rule::TooLong => "text over 4,096 bytes: 8",
+            Rule::NotUtf8 => "text not UTF-8: 9 where the Rust's caller stops",
+            Rule::TooDeep => "33rd open tuple: 10 at its bracket",
+            Rule::KindTuple => "kind text starts with a bracket: 14",
+            Rule::Panic => "context cuts a character, the Rust panics: error as elsewhere",
+            Rule::Escape => "message copies what the Rust escapes",
+        }
+    }
+}
+
+/// What a call has to answer if lent enough.
+enum Wanted<'a> {
+    Output(&'a [u8]),
+    Refusal(u32, usize),
+}
+
+/// Bytes on each side of what is lent; all are filled with FILL beforehand.
+const GUARD: usize = 64;
+const FILL: u8 = 0xA5;
+const SHOWN: usize = 10;
+
+#[derive(Default)]
+struct Compare {
+    buffer: Vec<u8>,
+    fill: Vec<u8>,
+    outcomes: BTreeMap<(&'static str, u32), usize>,
+    rules: BTreeMap<Rule, usize>,
+    asked: usize,
+    unlisted: usize,
+    records: usize,
+}
+
+impl Compare {
+    fn count(&mut self, call: &Call, number: u32) {
+        *self.outcomes.entry((call.name, number)).or_default() += 1;
+    }
+
+    fn listed(&mut self, rule: Rule) {
+        *self.rules.entry(rule).or_default() += 1;
+    }
+
+    fn differ(&mut self, call: &str, input: &[u8], what: impl FnOnce() -> String) {
+        self.unlisted += 1;
+        if self.unlisted <= SHOWN {
+            println!("unlisted: {call} {}\n  {}", hex(input), what());
+        }
+    }
+
+    /// A call with rooms 0, one short, exact and one over; with a few if it refuses.
+    fn check(&mut self, call: &Call, input: &[u8], wanted: &Wanted) {
+        let (rooms, output, answer) = match *wanted {
+            Wanted::Output(output) => {
+                let n = output.len();
+                ([0, n.saturating_sub(1), n, n + 1], output, (0, n))
+            }
+            Wanted::Refusal(number, position) => {
+                let n = input.len();
+                ([0, 1, n % 200, 10 * n.min(100)], &[][..], (number, position))
+            }
+        };
+        self.count(call, answer.0);
+        for room in rooms {
+            self.lend(call, input, room, output, answer);
+        }
+    }
+
+    /// One call with a room; every byte around and in it is looked at afterwards.
+    fn lend(&mut self, call: &Call, input: &[u8], room: usize, output: &[u8], answer: Answer) {
+        let short = answer.0 == 0 && room < output.len();
+        if short {
+            self.count(call, 20);
+        }
+        let (answer, output) = if short { ((20, 0), &[][..]) } else { (answer, output) };
+        let size = room + 2 * GUARD;
+        if self.buffer.len() < size {
+            self.buffer.resize(size, FILL);
+            self.fill.resize(size, FILL);
+        }
+        self.asked += 1;
+        let given = ask(call, input, &mut self.buffer[GUARD..GUARD + room]);
+        let written = GUARD + output.len();
+        let kept = self.buffer[..GUARD] == self.fill[..GUARD]
+            && self.buffer[written..size] == self.fill[written..size];
+        let good = self.buffer[GUARD..written] == *output;
+        if given == answer && kept && good {
+            self.buffer[GUARD..written].fill(FILL);
+            return;
+        }
+        let buffer = self.buffer[GUARD..written].to_vec();
+        self.buffer.fill(FILL);
+        self.differ(call.name, input, || {
+            let bytes = match (good, kept) {
+                (true, true) => "the bytes right".to_string(),
+                (true, false) => "bytes changed that are not the output's".to_string(),
+                _ => format!("bytes {} instead of {}", hex(&buffer), hex(output)),
+            };
+            format!("room {room}: answer {given:?} instead of {answer:?}, {bytes}")
+        });
+    }
+
+    /// Everything about one text. The last record that was read is left in `record`.
+    fn text(&mut self, bytes: &[u8], record: &mut Vec<u8>) {
+        let text = std::str::from_utf8(bytes).map_err(|e| e.valid_up_to());
+        for (place, call) in READERS.iter().enumerate() {
+            let refused = match text {
+                _ if bytes.len() > 4096 => Some((Rule::TooLong, 8, 0)),
+                Err(valid) => Some((Rule::NotUtf8, 9, valid)),
+                Ok(text) if place == KIND => text.starts_with('(').then_some((Rule::KindTuple, 14, 0)),
+                Ok(text) => original::too_deep(place, text).map(|at| (Rule::TooDeep, 10, at)),
+            };
+            if let Some((rule, number, position)) = refused {
+                self.listed(rule);
+                self.check(call, bytes, &Wanted::Refusal(number, position));
+                self.message(place, bytes, "");
+                continue;
+            }
+            let text = text.unwrap();
+            match original::read(place, text) {
+                Said::Read { record: read, texts } => {
+                    self.check(call, bytes, &Wanted::Output(&read));
+                    self.message(place, bytes, "");
+                    self.texts(&read, &texts, place == KIND);
+                    *record = read;
+                }
+                Said::Refused { number, position, message } => {
+                    self.check(call, bytes, &Wanted::Refusal(number, position));
+                    if place != KIND {
+                        self.copied(place, text, number, position, &message);
+                    }
+                }
+                Said::Panicked { number, position } => {
+                    self.listed(Rule::Panic);
+                    self.check(call, bytes, &Wanted::Refusal(number, position));
+                    self.message(place, bytes, &document::message(place, text, number, position));
+                }
+            }
+        }
+    }
+
+    /// The message call, by the Rust's message and by document 01's wording.
+    fn copied(&mut self, place: usize, text: &str, number: u32, position: usize, message: &str) {
+        let copied = document::copied(message);
+        if copied != message {
+            self.listed(Rule::Escape);
+        }
+        let worded = document::message(place, text, number, position);
+        if copied != worded {
+            let what = || format!("the Rust {message}, document 01 {worded}");
+            self.differ("message", text.as_bytes(), what);
+        }
+        self.message(place, text.as_bytes(), &copied);
+    }
+
+    fn message(&mut self, place: usize, text: &[u8], message: &str) {
+        if let Some(call) = MESSAGES.get(place) {
+            self.check(call, text, &Wanted::Output(message.as_bytes()));
+        }
+    }
+
+    /// The calls on a record that was read; `field` if by the kind call.
+    fn texts(&mut self, record: &[u8], texts: &Texts, field: bool) {
+        let all = [&texts.canonical, &texts.signature, &texts.kind, &texts.name];
+        for (place, (call, text)) in WRITERS.iter().zip(all).enumerate() {
+            let wanted = match text {
+                Some(text) => Wanted::Output(text),
+                // Kind text of a declaration; canonical and signature of a field.
+                None if field || place == 2 => Wanted::Refusal(15, 0),
+                None => Wanted::Refusal(16, 0),
+            };
+            self.check(call, record, &wanted);
+        }
+    }
+
+    /// The calls on any bytes, by document 01.
+    fn record(&mut self, record: &[u8]) {
+        self.records += 1;
+        let formed = document::formed(record);
+        let signature = formed.as_ref().map(|f| [&f.canonical, &b":"[..], &f.outputs].concat());
+        let (wrong, none) = (|| Wanted::Refusal(15, 0), || Wanted::Refusal(16, 0));
+        let wanted = match &formed {
+            None => [wrong(), wrong(), wrong(), wrong()],
+            Some(f) => {
+                let canonical = Wanted::Output(&f.canonical);
+                let name = Wanted::Output(f.name);
+                match f.kind {
+                    document::FUNCTION => {
+                        [canonical, Wanted::Output(signature.as_ref().unwrap()), wrong(), name]
+                    }
+                    document::CONSTRUCTOR => [none(), none(), wrong(), none()],
+                    document::FIELD => [wrong(), wrong(), canonical, name],
+                    _ => [canonical, none(), wrong(), name],
+                }
+            }
+        };
+        for (call, wanted) in WRITERS.iter().zip(&wanted) {
+            self.check(call, record, wanted);
+        }
+    }
+
+    /// Outcomes by call and refusal number.
+    fn table(&self) {
+        let mut numbers: Vec<u32> = self.outcomes.keys().map(|k| k.1).collect();
+        numbers.sort();
+        numbers.dedup();
+        print!("{:19}", "call");
+        for n in &numbers {
+            print!("{:>10}", if *n == 0 { "ok".to_string() } else { n.to_string() });
+        }
+        println!();
+        for call in READERS.iter().chain(WRITERS).chain(MESSAGES) {
+            print!("{:19}", call.name);
+            for n in &numbers {
+                print!("{:>10}", self.outcomes.get(&(call.name, *n)).unwrap_or(&0));
+            }
+            println!();
+        }
+    }
+}
+
+fn hex(bytes: &[u8]) -> String {
+    if bytes.is_empty() {
+        return "-".into();
+    }
+    let shown: String = bytes.iter().take(500).map(|b| format!("{b:02x}")).collect();
+    if bytes.len() > 500 { format!("{shown}... ({} bytes)", bytes.len()) } else { shown }
+}
+
+fn run(count: usize, seed: u64) -> bool {
+    // The original's panics are answers here: no words about them.
+    std::panic::set_hook(Box::new(|_| {}));
+    let mut compare = Compare::default();
+    let mut random = Random::new(seed + 1);
+    let mut read = vec![];
+    let mut texts = 0;
+    for size in [40_959, 40_960, 40_961, 50_000] {
+        compare.record(&records::of_size(size));
+    }
+    texts::each(count, seed, |text| {
+        texts += 1;
+        compare.text(text, &mut read);
+        // By turns a made-up record, one with a fault, one damaged, and one that was read, damaged.
+        let mut record = read.clone();
+        if texts % 4 != 0 {
+            let faults = (texts % 4 == 1) as usize;
+            let deep = *random.of(&[&0, &2, &2, &3, &3, &32, &33]);
+            let mut maker = records::Maker { random: &mut random, out: vec![], faults, deep };
+            maker.record();
+            record = maker.out;
+        }
+        if texts % 4 > 2 || texts % 4 == 0 {
+            texts::damage(&mut random, &mut record);
+        }
+        compare.record(&record);
+    });
+    compare.table();
+    for (rule, times) in &compare.rules {
+        println!("listed: {times:>9} {}", rule.says());
+    }
+    let calls = READERS.len() + WRITERS.len() + MESSAGES.len();
+    let (asked, records) = (compare.asked, compare.records);
+    println!("{calls} functions called {asked} times; {records} records made up; seed {seed}");
+    println!("compare: {texts} texts, {} unlisted differences", compare.unlisted);
+    compare.unlisted == 0
+}
+
+fn main() {
+    let mut arguments = std::env::args().skip(1).map(|a| a.parse::<u64>().expect("a number"));
+    let count = arguments.next().unwrap_or(200_000) as usize;
+    let seed = arguments.next().unwrap_or(1);
+    // The original goes as deep as the text does.
+    let run = std::thread::Builder::new().stack_size(1 << 28).spawn(move || run(count, seed));
+    match run.unwrap().join() {
+        Ok(true) => (),
+        Ok(false) => std::process::exit(1),
+        Err(_) => {
+            println!("compare: stopped by a panic that is not the original's");
+            std::process::exit(2);
+        }
+    }
+}
