@@ -7,19 +7,19 @@ use Rattle.geusomin.proofs.geusomin_parse_constructor.Lts as lts
 use Rattle.declaration.proofs.parse_constructor.Reads as parse-constructor-reads
 use Rattle.geusomin.proofs.tell.Reads as tell-reads
 
--- src/lib.rt:51:10
+-- src/lib.rt:61:10
 parse-constructor-requires : tie.Need-parse-constructor-requires
 parse-constructor-requires c κs = search needs
 
--- src/lib.rt:51:5
+-- src/lib.rt:61:5
 tell-requires : tie.Need-tell-requires
 tell-requires c κs = search needs
 
--- src/lib.rt:45:1
+-- src/lib.rt:51:1
 same-length : tie.Need-same-length
 same-length c = search needs
 
--- src/lib.rt:45:1
+-- src/lib.rt:51:1
 returns : tie.Need-returns
 returns c = told _ _ _ _ _ _ (c .before .before .before .before .parse-constructor .ensures .0) (c .before .before .before .before .parse-constructor .ensures .1) (c .tell .ensures .0) (c .tell .ensures .1)
 
