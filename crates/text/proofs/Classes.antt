@@ -1,38 +1,48 @@
 -- The classes of bytes, by the comparisons that the code makes.
 -- Assumes nothing.
-use mathlib.Core.Path.{_≡_, refl, sym}
-use mathlib.Core.Bool.{Bool, true, false, _&&_, _||_, or-false, or-true}
+use mathlib.Core.Path.{_≡_, refl, sym, _∙_, ap}
+use mathlib.Core.Bool.{Bool, true, false, _||_}
 use Prim.Native.Nat.{ℕ, _≤_, _<_}
-use native.Mathlib.Omega.{arith}
 use lib.Dec.{leb, eqb}
 use borrow.Author.Tests.{le-leb, lt-leb, eq-eqb, ne-eqb}
-use Rattle.kinds.specs.Bytes.{isDigit, isLetter, isWordByte}
+use Rattle.kinds.specs.Bytes.{between, isDigit, isLetter, isWordByte}
 
-pub digit-high : (c : ℕ) → 48 ≤ c → leb c 57 ≡ isDigit c
-digit-high c h = rw (le-leb 48 c h)
+-- a range, tested from below
+pub range-high : (low high c : ℕ) → low ≤ c → leb c high ≡ between low high c
+range-high low high c h = rw (le-leb low c h)
 
-pub digit-low : (c : ℕ) → c < 48 → leb 48 c ≡ isDigit c
-digit-low c h = rw (lt-leb 48 c h)
+pub range-low : (low high c : ℕ) → c < low → leb low c ≡ between low high c
+range-low low high c h = rw (lt-leb low c h)
 
-pub letter-small : (c : ℕ) → 97 ≤ c → leb c 122 ≡ isLetter c
-letter-small c h = rw (le-leb 97 c h, le-leb 65 c (omega arith), lt-leb c 90 (omega arith), ne-eqb c 36 (omega arith), ne-eqb c 95 (omega arith)) (sym (or-false (leb c 122)))
+-- one test or the other
+pub either-first : (x y r : Bool) → r ≡ x → r ≡ true → r ≡ (x || y)
+either-first x y r e f = let z : x ≡ true = sym e ∙ f in rw (f, z)
 
-pub letter-capital : (c : ℕ) → c < 97 → 65 ≤ c → c ≤ 90 → leb c 90 ≡ isLetter c
-letter-capital c h i j = rw (lt-leb 97 c h, le-leb 65 c i, le-leb c 90 j)
+pub either-second : (x y r s : Bool) → r ≡ x → r ≡ false → s ≡ y → s ≡ (x || y)
+either-second x y r s e f g = let z : x ≡ false = sym e ∙ f in rw (z, g)
 
-pub letter-line : (c : ℕ) → c < 97 → 65 ≤ c → 90 < c → eqb c 95 ≡ isLetter c
-letter-line c h i j = rw (lt-leb 97 c h, le-leb 65 c i, lt-leb c 90 j, ne-eqb c 36 (omega arith))
+either-assoc : (x y z : Bool) → ((x || y) || z) ≡ (x || (y || z))
+either-assoc true y z = refl
+either-assoc false y z = refl
 
-pub letter-dollar : (c : ℕ) → c < 97 → c < 65 → eqb c 36 ≡ isLetter c
-letter-dollar c h i = rw (lt-leb 97 c h, lt-leb 65 c i, ne-eqb c 95 (omega arith)) (sym (or-false (eqb c 36)))
+module _ (c : ℕ) (r : Bool) (e : r ≡ (between 97 122 c || between 65 90 c)) where
+  by-alphabetic : isLetter c ≡ (r || (eqb c 36 || eqb c 95))
+  by-alphabetic = sym (either-assoc (between 97 122 c) (between 65 90 c) (eqb c 36 || eqb c 95)) ∙ ap (λ x. x || (eqb c 36 || eqb c 95)) (sym e)
 
-pub word-digit : (c : ℕ) → c ≤ 57 → 48 ≤ c → leb 48 c ≡ isWordByte c
-word-digit c h i = rw (le-leb 48 c i, le-leb c 57 h)
+  pub letter-alphabetic : r ≡ true → true ≡ isLetter c
+  letter-alphabetic f = rw (by-alphabetic, f)
 
-pub word-dollar : (c : ℕ) → c ≤ 57 → c < 48 → eqb c 36 ≡ isWordByte c
-word-dollar c h i = rw (lt-leb 48 c i) (letter-dollar c (omega arith) (omega arith))
+  pub letter-dollar : r ≡ false → c ≡ 36 → eqb c 36 ≡ isLetter c
+  letter-dollar f g = rw (by-alphabetic, f, eq-eqb c 36 g)
 
-pub word-letter : (c : ℕ) (r : Bool) → 57 < c → r ≡ isLetter c → r ≡ isWordByte c
-word-letter c r h e = rw (le-leb 48 c (omega arith), lt-leb c 57 h) e
+  pub letter-line : r ≡ false → (c ≡ 36 → ⊥) → eqb c 95 ≡ isLetter c
+  letter-line f g = rw (by-alphabetic, f, ne-eqb c 36 g)
 
-pub ruleset classes = (digit-high, digit-low, letter-small, letter-capital, letter-line, letter-dollar, word-digit, word-dollar, word-letter)
+  pub word-alphabetic : r ≡ true → r ≡ isWordByte c
+  word-alphabetic f = rw f (go (isDigit c))
+    where
+      go : (x : Bool) → true ≡ (x || isLetter c)
+      go true = refl
+      go false = letter-alphabetic f
+
+pub ruleset classes = (range-high, range-low, either-first, either-second, letter-alphabetic, letter-dollar, letter-line, word-alphabetic)

@@ -10,10 +10,10 @@ use native.Mathlib.Numerals.{add-one}
 use lib.Dec.{eqb}
 use lib.ListN.{length, take, drop, getD, length-drop}
 use lib.Seq.{drop-cons}
-use borrow.Author.Tests.{eq-eqb, ne-eqb, eqb-true, eqb-false}
+use borrow.Author.Tests.{lt-ltb, eq-eqb, ne-eqb, eqb-true, eqb-false}
 use Rattle.kinds.specs.Bytes.{all, isAscii, comma, rparen}
 use Rattle.model.specs.Text.{span, charOf, charLength, character, validLength, isBlank, blankLength, blank, skip, peek, runByte, runLength}
-use Rattle.model.proofs.Scans.{span-le, blank-ascii, blank-space, blank-plain, skip-le, skip-within, skip-none, skip-space, skip-part, peek-byte, peek-end, part-rest, scan-none, scan-item, valid-ascii}
+use Rattle.model.proofs.Scans.{span-le, span-item, blank-nil, blank-ascii, blank-space, blank-plain, skip-le, skip-within, skip-none, skip-space, skip-part, peek-byte, peek-end, part-rest, scan-none, scan-item, valid-ascii}
 use Rattle.text.specs.Found.{charFrom, CharIs, Skipped}
 
 module _ (t : List ℕ) (v n : ℕ) (r : Bool) (i : CharIs t v n) (e : r ≡ isBlank v) where
@@ -32,6 +32,22 @@ module _ (t : List ℕ) (v n : ℕ) (r : Bool) (i : CharIs t v n) (e : r ≡ isB
       go : (m : ℕ) → 0 ≡ blankLength (charFrom v m)
       go zero = refl
       go (suc m) = rw (blankLength, ← e, w)
+
+-- the blank that an ASCII byte is, or none
+module _ (t : List ℕ) (h : 0 < length t) (k : getD t 0 0 < 128) (r : Bool) (e : r ≡ isBlank (getD t 0 0)) where
+  first : t ≡ getD t 0 0 ∷ drop 1 t
+  first = drop-cons t 0 0 h
+
+  pub blank-byte : r ≡ true → 1 ≡ blank t
+  unfolding blank charOf
+  blank-byte w = sym (ap blank first ∙ rw (blank, charOf, lt-ltb (getD t 0 0) 128 k, blankLength, ← e, w))
+
+  pub blank-no-byte : r ≡ false → 0 ≡ blank t
+  blank-no-byte w = sym (ap blank first ∙ blank-ascii (getD t 0 0) (drop 1 t) k (sym e ∙ w))
+
+pub blank-end : (t : List ℕ) → length t ≡ 0 → 0 ≡ blank t
+blank-end [] e = sym blank-nil
+blank-end (c ∷ t) e = absurd (omega arith)
 
 -- the length of a character
 pub char-length : (t : List ℕ) (v n : ℕ) → CharIs t v n → n ≡ character t
@@ -54,6 +70,12 @@ skipped-slowly s at r h e = skipped s at (at + r) h (skip-part s at r e)
 
 pub skipped-none : (s : List ℕ) (at : ℕ) → at < length s → 32 < getD s at 0 → getD s at 0 < 128 → Skipped s at at
 skipped-none s at h k l = skipped s at at (omega arith) (sym (skip-none s at (rw (drop-cons s at 0 h) (blank-plain (getD s at 0) (drop (suc at) s) (omega arith) l))))
+
+pub skipped-over : (s : List ℕ) (at p : ℕ) → at + 1 < length s → getD s at 0 ≡ 32 → Skipped s (at + 1) p → Skipped s at p
+unfolding skip
+skipped-over s at p h e k =
+    let f : drop at s ≡ 32 ∷ drop (at + 1) s = rw add-one (drop-cons s at 0 (omega arith) ∙ rw e) in
+    skipped s at p (omega arith) (k .place ∙ omega (arith, ap (span blank) f, span-item blank (32 ∷ drop (at + 1) s) 0 (blank-space (drop (at + 1) s)) (omega arith)))
 
 pub skipped-space : (s : List ℕ) (at : ℕ) → at + 1 < length s → getD s at 0 ≡ 32 → 32 < getD s (at + 1) 0 → getD s (at + 1) 0 < 128 → Skipped s at (at + 1)
 skipped-space s at h e k l =
@@ -121,4 +143,4 @@ pub valid-start : (t : List ℕ) → 0 + span character (drop 0 t) ≡ validLeng
 unfolding validLength
 valid-start t = zero-add _
 
-pub ruleset skipping = (run-start, valid-start, blank-yes, blank-no, char-length, valid-whole, skipped-slowly, skipped-none, skipped-space, skipped-end, peek-here, peek-past, run-plain, run-high, run-comma, run-paren, run-space, run-slow, run-stop, run-more)
+pub ruleset skipping = (blank-byte, blank-no-byte, blank-end, skipped-over, run-start, valid-start, blank-yes, blank-no, char-length, valid-whole, skipped-slowly, skipped-none, skipped-space, skipped-end, peek-here, peek-past, run-plain, run-high, run-comma, run-paren, run-space, run-slow, run-stop, run-more)

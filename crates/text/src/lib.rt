@@ -4,7 +4,8 @@ ghost use mathlib.Core.Option.{some};
 ghost use Prim.Native.Nat.{_+_, _*_, _≤_, _<_};
 ghost use lib.Dec.{eqb};
 ghost use lib.ListN.{length, drop};
-ghost use Rattle.kinds.specs.Bytes.{all, isAscii, isDigit, isLetter, isWordByte, same};
+ghost use mathlib.Core.Bool.{_||_};
+ghost use Rattle.kinds.specs.Bytes.{all, between, isAscii, isDigit, isLetter, isWordByte, same};
 ghost use Rattle.kinds.specs.Decimal.{plain, number};
 ghost use Rattle.model.specs.Text.{span, one, isTail, tails, scalar, validLength, isBlank, blank, skip, peek, wordLength, runByte, runLength};
 ghost use Rattle.model.specs.KindText.{starts};
@@ -17,26 +18,39 @@ pub fn is_digit(c: u8) -> bool
     48 <= c && c <= 57
 }
 
+fn is_lower(c: u8) -> bool
+    ensures { λ r. ⌜ r ≡ between 97 122 c ⌝ }
+{
+    97 <= c && c <= 122
+}
+
+fn is_upper(c: u8) -> bool
+    ensures { λ r. ⌜ r ≡ between 65 90 c ⌝ }
+{
+    65 <= c && c <= 90
+}
+
+// a-z, A-Z: most bytes of a word.
+fn is_alphabetic(c: u8) -> bool
+    ensures { λ r. ⌜ r ≡ (between 97 122 c || between 65 90 c) ⌝ }
+{
+    is_lower(c) || is_upper(c)
+}
+
 // a-z, A-Z, $, _
 pub fn is_letter(c: u8) -> bool
     ensures { λ r. ⌜ r ≡ isLetter c ⌝ }
 {
-    if 97 <= c {
-        return c <= 122;
+    if is_alphabetic(c) {
+        return true;
     }
-    if 65 <= c {
-        return c <= 90 || c == 95;
-    }
-    c == 36
+    c == 36 || c == 95
 }
 
 pub fn is_word_byte(c: u8) -> bool
     ensures { λ r. ⌜ r ≡ isWordByte c ⌝ }
 {
-    if c <= 57 {
-        return 48 <= c || c == 36;
-    }
-    is_letter(c)
+    is_digit(c) || is_letter(c)
 }
 
 // How many digits a part begins with.
@@ -64,10 +78,14 @@ pub fn word(t: &[u8]) -> usize
     if is_letter(t[0]) {
         let mut i = 1;
         while i < t.len() {
-            if is_word_byte(t[i]) {
+            if is_alphabetic(t[i]) {
                 i += 1;
             } else {
-                return i;
+                if is_word_byte(t[i]) {
+                    i += 1;
+                } else {
+                    return i;
+                }
             }
         }
         return i;
@@ -232,6 +250,16 @@ pub fn is_blank(code: u32) -> bool
 pub fn blank(t: &[u8]) -> usize
     ensures { λ r. ⌜ (r ≡ blank (now (t .entry))) × (r ≤ length (now (t .entry))) ⌝ }
 {
+    if t.len() == 0 {
+        return 0;
+    }
+    let a = t[0];
+    if a < 128 {
+        if is_blank(a as u32) {
+            return 1;
+        }
+        return 0;
+    }
     let c = char_of(t);
     if is_blank(c.code) { c.len } else { 0 }
 }
@@ -274,6 +302,7 @@ pub fn skip(s: &[u8], at: usize) -> usize
             if 32 < d && d < 128 {
                 return at + 1;
             }
+            return skip_slowly(s, at + 1);
         }
         return skip_slowly(s, at);
     }
