@@ -174,13 +174,13 @@ module _ (s : List ℕ) (at len : ℕ) (k : Keyword) (b b₁ : List ℕ) (m n : 
   unfolding toRead bytesOf
   refuses-deep q f = record { same = λ u l. rw (f u); wrote = λ b₀ u l x. rw (f u) (lost b₀ u l x) }
 
-  pub tail-bad : (w : Refusal) (q : ℕ) → r ≡ Bad w q → TailIs s at k len b b₁ r
+  pub tail-bad : (w : Refusal) (q : ℕ) → r ≡ Bad w q → TailIs s at k len b b₁ (Bad w q)
   unfolding tailOf then
-  tail-bad w q e = rw e (refuses-bad w q (λ u. rw (i .same, is-bad (outputsOf k s n) w q (sym e ∙ d .same))))
+  tail-bad w q e = refuses-bad w q (λ u. rw (i .same, is-bad (outputsOf k s n) w q (sym e ∙ d .same)))
 
-  pub tail-deep : (q : ℕ) → r ≡ Deep q → TailIs s at k len b b₁ r
+  pub tail-deep : (q : ℕ) → r ≡ Deep q → TailIs s at k len b b₁ (Deep q)
   unfolding tailOf then
-  tail-deep q e = rw e (refuses-deep q (λ u. rw (i .same, is-deep (outputsOf k s n) q (sym e ∙ d .same))))
+  tail-deep q e = refuses-deep q (λ u. rw (i .same, is-deep (outputsOf k s n) q (sym e ∙ d .same)))
 
   module _ (p l : ℕ) (e : r ≡ Got p l) where
     pub tail-paid : (n ≤ p) × (p ≤ length s) × (l + 10 * n ≤ 10 * p + 6)
@@ -198,13 +198,13 @@ module _ (s : List ℕ) (at len : ℕ) (k : Keyword) (b b₁ : List ℕ) (m n : 
           ∙ ap (λ (x : Ans (List ℕ)). then x (G m)) (outs .0)
           ∙ ap (onAns (λ _. declarationOf k m (u ++ bytesOf (outputsOf k s n)))) f
 
-      pub unended-bad : (w : Refusal) (q : ℕ) → x ≡ Bad w q → TailIs s at k len b b₁ x
+      pub unended-bad : (w : Refusal) (q : ℕ) → x ≡ Bad w q → TailIs s at k len b b₁ (Bad w q)
       unfolding onAns
-      unended-bad w q f = rw f (refuses-bad w q (tail-by (bad w q) (of-bad (λ _. []) (end s p) w q (is-bad (onAns (λ _. []) (end s p)) w q (sym f ∙ t .same)))))
+      unended-bad w q f = refuses-bad w q (tail-by (bad w q) (of-bad (λ _. []) (end s p) w q (is-bad (onAns (λ _. []) (end s p)) w q (sym f ∙ t .same))))
 
-      pub unended-deep : (q : ℕ) → x ≡ Deep q → TailIs s at k len b b₁ x
+      pub unended-deep : (q : ℕ) → x ≡ Deep q → TailIs s at k len b b₁ (Deep q)
       unfolding onAns
-      unended-deep q f = rw f (refuses-deep q (tail-by (deep q) (of-deep (λ _. []) (end s p) q (is-deep (onAns (λ _. []) (end s p)) q (sym f ∙ t .same)))))
+      unended-deep q f = refuses-deep q (tail-by (deep q) (of-deep (λ _. []) (end s p) q (is-deep (onAns (λ _. []) (end s p)) q (sym f ∙ t .same))))
 
       pub tail-got : (z y : ℕ) (b₂ : List ℕ) → x ≡ Got z y → b₂ ≡ put 0 (frontOf k (len + l) m) b₁ → TailIs s at k len b b₂ (Got z (len + l))
       unfolding onAns toRead bytesOf declarationOf frontOf
@@ -228,13 +228,13 @@ module _ (s : List ℕ) (at len : ℕ) (k : Keyword) (b b₁ : List ℕ) (m n : 
 
 -- what follows the keyword
 module _ (s : List ℕ) (at o : ℕ) (k : Keyword) (b₀ b₁ : List ℕ) (r : Read) (z : o ≡ frontLength k) (d : Did 0 s at o b₀ b₁ (nameOf k s at) r) where
-  pub body-bad : (w : Refusal) (q : ℕ) → r ≡ Bad w q → Whole b₀ b₁ (bodyOf k s at) r
+  pub body-bad : (w : Refusal) (q : ℕ) → r ≡ Bad w q → Whole b₀ b₁ (bodyOf k s at) (Bad w q)
   unfolding bodyOf then toRead bytesOf
-  body-bad w q e = rw (e, is-bad (nameOf k s at) w q (sym e ∙ d .same)) (record { same = refl; wrote = wrote-less 0 o b₀ b₁ _ (d .wrote) (omega arith) })
+  body-bad w q e = rw (is-bad (nameOf k s at) w q (sym e ∙ d .same)) (record { same = refl; wrote = wrote-less 0 o b₀ b₁ _ (d .wrote) (omega arith) })
 
-  pub body-deep : (q : ℕ) → r ≡ Deep q → Whole b₀ b₁ (bodyOf k s at) r
+  pub body-deep : (q : ℕ) → r ≡ Deep q → Whole b₀ b₁ (bodyOf k s at) (Deep q)
   unfolding bodyOf then toRead bytesOf
-  body-deep q e = rw (e, is-deep (nameOf k s at) q (sym e ∙ d .same)) (record { same = refl; wrote = wrote-less 0 o b₀ b₁ _ (d .wrote) (omega arith) })
+  body-deep q e = rw (is-deep (nameOf k s at) q (sym e ∙ d .same)) (record { same = refl; wrote = wrote-less 0 o b₀ b₁ _ (d .wrote) (omega arith) })
 
   module _ (p n : ℕ) (e : r ≡ Got p n) (h : Room 0 36 s at 0 b₀) where
     pub name-paid : (at ≤ p) × (p ≤ length s) × (n + 10 * at ≤ 10 * p + 0)
@@ -260,13 +260,13 @@ module _ (s : List ℕ) (at o : ℕ) (k : Keyword) (b₀ b₁ : List ℕ) (r : R
       gone : Wrote 0 b₀ b₂ []
       gone = wrote-less 0 o b₀ b₂ [] (wrote-lost o (o + n) b₀ b₁ b₂ _ _ (d .wrote) (ins .wrote) (omega arith)) (omega arith)
 
-      pub inputs-bad : (w : Refusal) (q : ℕ) → x ≡ Bad w q → Whole b₀ b₂ (bodyOf k s at) x
+      pub inputs-bad : (w : Refusal) (q : ℕ) → x ≡ Bad w q → Whole b₀ b₂ (bodyOf k s at) (Bad w q)
       unfolding then toRead bytesOf
-      inputs-bad w q f = rw (f, body-by (bad w q) (is-bad (listIn (sortOf k) s p) w q (sym f ∙ ins .same))) (record { same = refl; wrote = gone })
+      inputs-bad w q f = rw (body-by (bad w q) (is-bad (listIn (sortOf k) s p) w q (sym f ∙ ins .same))) (record { same = refl; wrote = gone })
 
-      pub inputs-deep : (q : ℕ) → x ≡ Deep q → Whole b₀ b₂ (bodyOf k s at) x
+      pub inputs-deep : (q : ℕ) → x ≡ Deep q → Whole b₀ b₂ (bodyOf k s at) (Deep q)
       unfolding then toRead bytesOf
-      inputs-deep q f = rw (f, body-by (deep q) (is-deep (listIn (sortOf k) s p) q (sym f ∙ ins .same))) (record { same = refl; wrote = gone })
+      inputs-deep q f = rw (body-by (deep q) (is-deep (listIn (sortOf k) s p) q (sym f ∙ ins .same))) (record { same = refl; wrote = gone })
 
       module _ (q i : ℕ) (f : x ≡ Got q i) where
         pub inputs-paid : (p ≤ q) × (q ≤ length s) × (i + 10 * p ≤ 10 * q + 0)
@@ -389,13 +389,13 @@ module _ (s : List ℕ) (k : Keyword) (b : List ℕ) (r : Read) (t : Took s 5 (k
   exec-by : (a : Ans (Unit {0})) → keyword (keywordText k) s 0 ≡ a → onAns (encode 4) (exec (parserOf k) s) ≡ then a (λ _ n. bodyOf k s n)
   exec-by a f = exec-is s k ∙ ap (λ (x : Ans (Unit {0})). then x (λ _ n. bodyOf k s n)) f
 
-  pub exec-bad : (w : Refusal) (q : ℕ) → r ≡ Bad w q → Whole b b (onAns (encode 4) (exec (parserOf k) s)) r
+  pub exec-bad : (w : Refusal) (q : ℕ) → r ≡ Bad w q → Whole b b (onAns (encode 4) (exec (parserOf k) s)) (Bad w q)
   unfolding then toRead bytesOf keywordIs
-  exec-bad w q e = rw (e, exec-by (bad w q) (of-bad (λ _. []) (keyword (keywordText k) s 0) w q (is-bad (keywordIs k s) w q (sym e ∙ t .same)))) (record { same = refl; wrote = wrote-none 0 b })
+  exec-bad w q e = rw (exec-by (bad w q) (of-bad (λ _. []) (keyword (keywordText k) s 0) w q (is-bad (keywordIs k s) w q (sym e ∙ t .same)))) (record { same = refl; wrote = wrote-none 0 b })
 
-  pub exec-deep : (q : ℕ) → r ≡ Deep q → Whole b b (onAns (encode 4) (exec (parserOf k) s)) r
+  pub exec-deep : (q : ℕ) → r ≡ Deep q → Whole b b (onAns (encode 4) (exec (parserOf k) s)) (Deep q)
   unfolding then toRead bytesOf keywordIs
-  exec-deep q e = rw (e, exec-by (deep q) (of-deep (λ _. []) (keyword (keywordText k) s 0) q (is-deep (keywordIs k s) q (sym e ∙ t .same)))) (record { same = refl; wrote = wrote-none 0 b })
+  exec-deep q e = rw (exec-by (deep q) (of-deep (λ _. []) (keyword (keywordText k) s 0) q (is-deep (keywordIs k s) q (sym e ∙ t .same)))) (record { same = refl; wrote = wrote-none 0 b })
 
   module _ (n l : ℕ) (e : r ≡ Got n l) where
     pub keyword-within : (5 ≤ n) × (n ≤ length s)

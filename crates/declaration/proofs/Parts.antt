@@ -131,17 +131,17 @@ module _ (s : List ℕ) (at p b o : ℕ) (sort : Sort) (v : Looked s at p b) whe
     unfolding fields then opened
     eq-opened = rw (take-got s at p b v lparen ExpectOpen g)
 
-    pub list-bad : (w : Refusal) (q : ℕ) → r ≡ Bad w q → Did 0 s at o b₀ b₁ (listIn sort s at) r
+    pub list-bad : (w : Refusal) (q : ℕ) → r ≡ Bad w q → Did 0 s at o b₀ b₁ (listIn sort s at) (Bad w q)
     unfolding listIn onAns toRead bytesOf opened
     list-bad w q e =
         let y : opened ≡ bad w q = of-bad (encodeFields 4) opened w q (family.is-bad (listOf sort 32 s (p + 1)) w q (sym e ∙ i .same)) in
-        rw (e, eq-opened, y) (record { same = refl; within = tt; wrote = wrote-less o (o + 6) b₀ b₁ _ (i .wrote) (omega arith) })
+        rw (eq-opened, y) (record { same = refl; within = tt; wrote = wrote-less o (o + 6) b₀ b₁ _ (i .wrote) (omega arith) })
 
-    pub list-deep : (q : ℕ) → r ≡ Deep q → Did 0 s at o b₀ b₁ (listIn sort s at) r
+    pub list-deep : (q : ℕ) → r ≡ Deep q → Did 0 s at o b₀ b₁ (listIn sort s at) (Deep q)
     unfolding listIn onAns toRead bytesOf opened
     list-deep q e =
         let y : opened ≡ deep q = of-deep (encodeFields 4) opened q (family.is-deep (listOf sort 32 s (p + 1)) q (sym e ∙ i .same)) in
-        rw (e, eq-opened, y) (record { same = refl; within = tt; wrote = wrote-less o (o + 6) b₀ b₁ _ (i .wrote) (omega arith) })
+        rw (eq-opened, y) (record { same = refl; within = tt; wrote = wrote-less o (o + 6) b₀ b₁ _ (i .wrote) (omega arith) })
 
     module _ (n l : ℕ) (e : r ≡ Got n l) where
       list-paid : (p + 1 < n) × (n ≤ length s) × (l + 10 + 10 * (p + 1) ≤ 10 * n)

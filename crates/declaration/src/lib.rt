@@ -85,8 +85,8 @@ fn field_list(s: &[u8], at: usize, sort: Sort, out: &mut [u8], o: usize) -> Read
                 layout::header(out, o, 6 + len, 18);
                 Read::Got { next, len: 6 + len }
             }
-            Read::Bad { refusal: _, at: _ } => r,
-            Read::Deep { at: _ } => r,
+            Read::Bad { refusal: w, at: x } => Read::Bad { refusal: w, at: x },
+            Read::Deep { at: x } => Read::Deep { at: x },
         };
     }
     if v.byte == 256 {
@@ -300,12 +300,12 @@ fn tail(s: &[u8], at: usize, k: Keyword, out: &mut [u8], len: usize) -> Read
                         len: len + l,
                     }
                 }
-                Read::Bad { refusal: _, at: _ } => e,
-                Read::Deep { at: _ } => e,
+                Read::Bad { refusal: w, at: x } => Read::Bad { refusal: w, at: x },
+                Read::Deep { at: x } => Read::Deep { at: x },
             }
         }
-        Read::Bad { refusal: _, at: _ } => r,
-        Read::Deep { at: _ } => r,
+        Read::Bad { refusal: w, at: x } => Read::Bad { refusal: w, at: x },
+        Read::Deep { at: x } => Read::Deep { at: x },
     }
 }
 
@@ -321,12 +321,12 @@ fn body(s: &[u8], at: usize, k: Keyword, out: &mut [u8]) -> Read
             let b = field_list(s, p, sort_of(k), out, o + n);
             match b {
                 Read::Got { next: q, len: i } => tail(s, q, k, out, o + n + i),
-                Read::Bad { refusal: _, at: _ } => b,
-                Read::Deep { at: _ } => b,
+                Read::Bad { refusal: w, at: x } => Read::Bad { refusal: w, at: x },
+                Read::Deep { at: x } => Read::Deep { at: x },
             }
         }
-        Read::Bad { refusal: _, at: _ } => a,
-        Read::Deep { at: _ } => a,
+        Read::Bad { refusal: w, at: x } => Read::Bad { refusal: w, at: x },
+        Read::Deep { at: x } => Read::Deep { at: x },
     }
 }
 
@@ -338,8 +338,8 @@ fn exec(s: &[u8], k: Keyword, out: &mut [u8]) -> Read
     let r = keyword(s, k);
     match r {
         Read::Got { next, len: _ } => body(s, next, k, out),
-        Read::Bad { refusal: _, at: _ } => r,
-        Read::Deep { at: _ } => r,
+        Read::Bad { refusal: w, at: x } => Read::Bad { refusal: w, at: x },
+        Read::Deep { at: x } => Read::Deep { at: x },
     }
 }
 

@@ -158,13 +158,13 @@ module _ (s : List ℕ) (sort : Sort) (d at p b o : ℕ) (v : Looked s at p b) w
           wrote = j .wrote b₀ (t .what) c q (subst (Wrote (o + 14) b₀ b₁) (sym (t .bytes)) (i .wrote));
         })
 
-    pub field-bad : (w : Refusal) (q : ℕ) → f ≡ Bad w q → Put 0 s at o b₀ b₁ (fieldOf sort d s at) f
+    pub field-bad : (w : Refusal) (q : ℕ) → f ≡ Bad w q → Put 0 s at o b₀ b₁ (fieldOf sort d s at) (Bad w q)
     unfolding then onAns
-    field-bad w q e = rw (e, eq-nested g, of-bad kindBytes (tupleKind d s p) w q (is-bad (tupleOf d s p) w q (sym e ∙ i .same))) (refused-bad 0 s at o (o + 14) b₀ b₁ _ w q (i .wrote) (omega arith))
+    field-bad w q e = rw (eq-nested g, of-bad kindBytes (tupleKind d s p) w q (is-bad (tupleOf d s p) w q (sym e ∙ i .same))) (refused-bad 0 s at o (o + 14) b₀ b₁ _ w q (i .wrote) (omega arith))
 
-    pub field-deep : (q : ℕ) → f ≡ Deep q → Put 0 s at o b₀ b₁ (fieldOf sort d s at) f
+    pub field-deep : (q : ℕ) → f ≡ Deep q → Put 0 s at o b₀ b₁ (fieldOf sort d s at) (Deep q)
     unfolding then onAns
-    field-deep q e = rw (e, eq-nested g, of-deep kindBytes (tupleKind d s p) q (is-deep (tupleOf d s p) q (sym e ∙ i .same))) (refused-deep 0 s at o (o + 14) b₀ b₁ _ q (i .wrote) (omega arith))
+    field-deep q e = rw (eq-nested g, of-deep kindBytes (tupleKind d s p) q (is-deep (tupleOf d s p) q (sym e ∙ i .same))) (refused-deep 0 s at o (o + 14) b₀ b₁ _ q (i .wrote) (omega arith))
 
 -- a tuple
 pub tuple-none : (s : List ℕ) (p d o : ℕ) (b : List ℕ) → d ≡ 0 → Put 14 s p o b b (tupleOf d s p) (Deep p)
@@ -185,13 +185,13 @@ module _ (d : ℕ) (s : List ℕ) (p : ℕ) (n : d ≡ 0 → ⊥) where
       go (suc e) x = rw sub-one
 
   module _ (o : ℕ) (b₀ b₁ : List ℕ) (f : Read) (h : Room 14 d s p o b₀) (i : Put 10 s (p + 1) (o + 6) b₀ b₁ (listOf Plain (d - 1) s (p + 1)) f) where
-    pub tuple-bad : (w : Refusal) (q : ℕ) → f ≡ Bad w q → Put 14 s p o b₀ b₁ (tupleOf d s p) f
+    pub tuple-bad : (w : Refusal) (q : ℕ) → f ≡ Bad w q → Put 14 s p o b₀ b₁ (tupleOf d s p) (Bad w q)
     unfolding then onAns fieldsOf
-    tuple-bad w q e = rw (e, eq-tuple, of-bad (encodeFields 4) fieldsOf w q (is-bad (listOf Plain (d - 1) s (p + 1)) w q (sym e ∙ i .same))) (refused-bad 14 s p o (o + 6) b₀ b₁ _ w q (i .wrote) (omega arith))
+    tuple-bad w q e = rw (eq-tuple, of-bad (encodeFields 4) fieldsOf w q (is-bad (listOf Plain (d - 1) s (p + 1)) w q (sym e ∙ i .same))) (refused-bad 14 s p o (o + 6) b₀ b₁ _ w q (i .wrote) (omega arith))
 
-    pub tuple-deep : (q : ℕ) → f ≡ Deep q → Put 14 s p o b₀ b₁ (tupleOf d s p) f
+    pub tuple-deep : (q : ℕ) → f ≡ Deep q → Put 14 s p o b₀ b₁ (tupleOf d s p) (Deep q)
     unfolding then onAns fieldsOf
-    tuple-deep q e = rw (e, eq-tuple, of-deep (encodeFields 4) fieldsOf q (is-deep (listOf Plain (d - 1) s (p + 1)) q (sym e ∙ i .same))) (refused-deep 14 s p o (o + 6) b₀ b₁ _ q (i .wrote) (omega arith))
+    tuple-deep q e = rw (eq-tuple, of-deep (encodeFields 4) fieldsOf q (is-deep (listOf Plain (d - 1) s (p + 1)) q (sym e ∙ i .same))) (refused-deep 14 s p o (o + 6) b₀ b₁ _ q (i .wrote) (omega arith))
 
     module _ (m l : ℕ) (e : f ≡ Got m l) where
       paid : (p + 1 < m) × (m ≤ length s) × (l + 10 + 10 * (p + 1) ≤ 10 * m)
@@ -339,11 +339,11 @@ module _ (s : List ℕ) (sort : Sort) (d from end o : ℕ) (b₀ b₁ : List ℕ
     put = put-closing s end o b₀ b₁ _ r (i .wrote) c;
   }
 
-  pub item-deep : (p : ℕ) → f ≡ Deep p → IsLast s sort d from end o b₀ b₁ f
+  pub item-deep : (p : ℕ) → f ≡ Deep p → IsLast s sort d from end o b₀ b₁ (Deep p)
   item-deep p e = record {
     a = deep p;
     step = λ k. follow-deep (rest F k s) s end (F s from) p (is-deep (fieldOf sort d s from) p (sym e ∙ i .same));
-    put = rw e (refused-deep 10 s end o o b₀ b₁ _ p (i .wrote) (omega arith));
+    put = refused-deep 10 s end o o b₀ b₁ _ p (i .wrote) (omega arith);
   }
 
 pub short-close : (s : List ℕ) (at n : ℕ) (r : Read) → Closes s at r → length s ≤ 4096 → n ≤ 65536 → Short n r

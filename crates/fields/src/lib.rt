@@ -310,8 +310,8 @@ fn longer(n: usize, r: Read) -> Read
 {
     match r {
         Read::Got { next, len } => Read::Got { next, len: len + n },
-        Read::Bad { refusal: _, at: _ } => r,
-        Read::Deep { at: _ } => r,
+        Read::Bad { refusal: w, at: x } => Read::Bad { refusal: w, at: x },
+        Read::Deep { at: x } => Read::Deep { at: x },
     }
 }
 
@@ -342,8 +342,8 @@ pub fn field(s: &[u8], at: usize, sort: Sort, d: usize, out: &mut [u8], o: usize
         let r = tuple(s, v.at, d, out, o + 14);
         return match r {
             Read::Got { next, len } => name_tuple(s, next, sort, out, o, len),
-            Read::Bad { refusal: _, at: _ } => r,
-            Read::Deep { at: _ } => r,
+            Read::Bad { refusal: w, at: x } => Read::Bad { refusal: w, at: x },
+            Read::Deep { at: x } => Read::Deep { at: x },
         };
     }
     leaf(s, v.at, sort, out, o)
@@ -367,8 +367,8 @@ pub fn tuple(s: &[u8], p: usize, d: usize, out: &mut [u8], o: usize) -> Read
                 len: 6 + len + g.len,
             }
         }
-        Read::Bad { refusal: _, at: _ } => r,
-        Read::Deep { at: _ } => r,
+        Read::Bad { refusal: w, at: x } => Read::Bad { refusal: w, at: x },
+        Read::Deep { at: x } => Read::Deep { at: x },
     }
 }
 
@@ -437,6 +437,8 @@ pub fn step(
             }
         }
         Read::Bad { refusal: _, at: _ } => Item::Last { r: close(s, end) },
-        Read::Deep { at: _ } => Item::Last { r: f },
+        Read::Deep { at: x } => Item::Last {
+            r: Read::Deep { at: x },
+        },
     }
 }
