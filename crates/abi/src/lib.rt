@@ -134,7 +134,7 @@ fn write_small(out: &mut [u8], o: usize, v: usize) -> usize
 }
 
 // Any number: its digits from the last to the first.
-fn write_decimal(out: &mut [u8], o: usize, v: u64) -> usize
+pub fn write_decimal(out: &mut [u8], o: usize, v: u64) -> usize
     requires { ⌜ o + length (decimal v) ≤ length (now out) ⌝ }
     ensures { λ r. ⌜ (now (out .exit) ≡ put o (decimal v) (now (out .entry))) × (r ≡ o + length (decimal v)) ⌝ }
 {

@@ -13,7 +13,6 @@ ghost use Rattle.kinds.specs.Bytes.{same};
 ghost use Rattle.model.specs.Parser.{onAns, end};
 ghost use Rattle.model.specs.Reading.{keywordText, exec, parserOf};
 ghost use Rattle.model.specs.Record.{encode};
-ghost use Rattle.fields.specs.Words.{Looked};
 ghost use Rattle.fields.specs.Scratch.{Room};
 ghost use Rattle.layout.specs.Buffer.{put};
 ghost use Rattle.model.specs.Answer.{said, outcome, after};
@@ -415,7 +414,8 @@ fn large(text: &[u8], k: Keyword, record: &mut [u8]) -> Answer
     via(text, k, &mut scratch, record)
 }
 
-// The short sizes apart from the long ones, so that a short text's call has a short stack.
+// The short sizes apart from the long ones, so that a short text's call has a short stack. Each of the two has several callers, so that the
+// compiler keeps them apart.
 fn short(text: &[u8], k: Keyword, record: &mut [u8]) -> Answer
     requires { ⌜ length (now text) ≤ 256 ⌝ }
     ensures says { λ r. ⌜ said r ≡ outcome (length (now («record» .entry))) (execOutput k (now (text .entry))) ⌝ }
@@ -484,7 +484,12 @@ fn parse(text: &[u8], k: Keyword, record: &mut [u8]) -> Answer
 {
     let a = admit(text);
     match a {
-        Admitted::Whole => by_size(text, k, record),
+        Admitted::Whole => {
+            if text.len() <= 256 {
+                return short(text, k, record);
+            }
+            long(text, k, record)
+        }
         Admitted::Not { refusal, at } => refused(refusal, at),
     }
 }

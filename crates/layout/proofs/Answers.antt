@@ -1,17 +1,20 @@
 -- What a call says and leaves, by how it ends: refused, too little room, or written.
 -- Assumes nothing.
 use mathlib.Core.Path.{_≡_, refl, sym, _∙_, ap}
+use mathlib.Core.Logic.{_↔_}
+use mathlib.Core.Bool.{Bool, true, false}
 use mathlib.Core.List.{List, _++_}
 use Prim.Native.Nat.{ℕ, _≤_, _<_}
+use native.Mathlib.Omega.{arith}
 use native.Mathlib.Nat.{zero-add}
 use lib.Dec.{ltb}
 use lib.ListN.{length, drop}
-use borrow.Author.Tests.{lt-ltb, le-ltb}
+use borrow.Author.Tests.{lt-ltb, le-ltb, ltb-true}
 use Rattle.model.specs.declared.Refusal.{Refusal}
 use Rattle.model.specs.declared.Refusal.the-variants.{NoRoom}
 use Rattle.model.specs.declared.Answer.{Answer}
 use Rattle.model.specs.declared.Answer.the-variants.{Accepted, Refused}
-use Rattle.model.specs.Answer.{Output, writes, refuses, said, outcome, after}
+use Rattle.model.specs.Answer.{Outcome, accepted, refused, Output, writes, refuses, number, said, needed, outcome, after}
 use Rattle.layout.specs.Buffer.{put}
 
 -- the two halves of a call's contract: what it says, and all of the lent buffer at exit
@@ -30,3 +33,13 @@ module _ (o : Output) (b : List ℕ) (r : Answer) where
   pub ends-written : (u b₁ : List ℕ) → r ≡ Accepted (length u) → o ≡ writes u → length u ≤ length b → b₁ ≡ put 0 u b → Ends o b b₁ r
   unfolding said outcome after put
   ends-written u b₁ e f h g = (rw (e, f, outcome, le-ltb (length b) (length u) h), rw (f, after, le-ltb (length b) (length u) h) (g ∙ rw zero-add))
+
+-- "20 while the output would fit fails demand 2, because the needed length has a definition": what a call would write is refused exactly where it
+-- is lent less than that
+pub no-room : (room : ℕ) (u : List ℕ) → (outcome room (writes u) ≡ refused (number NoRoom) 0) ↔ (room < needed (writes u))
+unfolding outcome needed
+no-room room u = (λ e. go (ltb room (length u)) refl e, λ h. rw (outcome, lt-ltb room (length u) h))
+  where
+    go : (t : Bool) → ltb room (length u) ≡ t → outcome room (writes u) ≡ refused (number NoRoom) 0 → room < length u
+    go true q e = ltb-true room (length u) q
+    go false q e = let f : accepted (length u) ≡ refused (number NoRoom) 0 = rw (outcome, q) at e in let z : _≡_ {A = ℕ} 0 1 = cc in absurd (omega arith)

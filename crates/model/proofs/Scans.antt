@@ -11,7 +11,7 @@ use native.Mathlib.Numerals.{add-one}
 use native.Mathlib.Decide.{decLt}
 use lib.Dec.{leb, ltb, eqb}
 use lib.ListN.{length, take, drop, getD, length-append, length-drop, drop-of-length-le}
-use lib.Seq.{take-all, drop-cons, drop-drop, drop-append-seam, take-append-seam, drop-append-le, take-append-le, getD-append-seam}
+use lib.Seq.{take-all, drop-cons, drop-drop, drop-append-seam, drop-append-le, take-append-le, getD-append-seam}
 use borrow.Author.Tests.{lt-ltb, le-ltb, ltb-true, leb-true, le-leb, lt-leb, eqb-true, ne-eqb, not-true}
 use Rattle.kinds.specs.Bytes.{comma, rparen, between, all, isAscii, isDigit, isLetter, isWordByte, isWord}
 use Rattle.model.specs.Text.{spanFrom, span, one, Char, char, noChar, isTail, tails, scalar, charOf, charLength, character, validLength, isBlank, blankLength, blank, skip, peek, wordLength, runByte, runLength, part}
@@ -93,10 +93,6 @@ part-rest s at = take-all (length s - at) (drop at s) (rw length-drop (omega ari
 -- past what stands there
 pub stands-past : (s : List ℕ) (at : ℕ) (u r : List ℕ) → drop at s ≡ u ++ r → drop (at + length u) s ≡ r
 stands-past s at u r e = sym (drop-drop (length u) at s) ∙ rw e (drop-append-seam u r)
-
--- the part that stands there
-pub stands-part : (s : List ℕ) (at : ℕ) (u r : List ℕ) → drop at s ≡ u ++ r → part s at (length u) ≡ u
-stands-part s at u r e = rw e (take-append-seam u r)
 
 pub stands-inside : (s : List ℕ) (at c : ℕ) (t : List ℕ) → drop at s ≡ c ∷ t → at < length s
 stands-inside s at c t e = omega (arith, length-drop at s, ap length e)

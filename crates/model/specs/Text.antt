@@ -38,7 +38,7 @@ tails zero v t = some v
 tails (suc k) v [] = none
 tails (suc k) v (c ∷ t) = elim (isTail c) [ true ↦ tails k (v * 64 + (c - 0x80)) t | false ↦ none ]
 
--- "no overlong forms, no surrogates, at most 10FFFF": a code point that wants n bytes since it is at least low
+-- UTF-8 has no overlong forms, no surrogates, and nothing above 10FFFF: a code point that wants n bytes since it is at least low
 abbrev pub scalar : ℕ → ℕ → Option ℕ → Char
 scalar n low none = noChar
 scalar n low (some v) = elim (between low 0x10FFFF v && not (between 0xD800 0xDFFF v)) [ true ↦ char v n | false ↦ noChar ]

@@ -28,8 +28,8 @@ abbrev pub nameText : List ℕ → List ℕ
 nameText [] = []
 nameText (c ∷ w) = space ∷ c ∷ w
 
--- "A field is its kind, then a space and its mark word if any, then a space and its name if any. A tuple's components are written so, and fields
--- are parted by `,`."
+-- a field is its kind, then a space and its mark word if any, then a space and its name if any. A tuple's components are written so, and fields are
+-- parted by `,`
 unfoldable mutual
   pub writtenBase : Base → List ℕ
   writtenBase (elementary e) = elementaryText e

@@ -18,6 +18,7 @@ use Rattle.model.specs.Record.{isFieldName, isMark, given, onOption, when, onPi
 use Rattle.model.proofs.Scans.{part-rest}
 use Rattle.record.specs.Texts.{measured, behind, elementaryFrom, suffixFrom, suffixesFrom, baseTextFrom, kindFrom, fieldTextFrom, tupleTextFrom}
 use Rattle.record.specs.Parts.{Head, Front}
+use Rattle.record.proofs.Lengths.{elementary-other}
 use Rattle.record.proofs.Loops.{Left, measured-none, left-end, left-none, left-bad, left-next}
 use Rattle.record.proofs.Equations.{suffixesIn, suffixes-in, suffix-steps, fieldsIn, parted, field-steps, tuple-empty, tuple-more, tuple-none, tuple-full, base-deep, base-tuple, base-elementary, elementary-filled, field-short, field-named, field-other}
 
@@ -144,6 +145,14 @@ module _ (d : ℕ) (t : List ℕ) (n : ℕ) (i : Head t n) where
       pub kind-elementary : (r : ℕ) → (s ≡ 0 → ⊥) → r ≡ behind s (suffixesFrom (take (length t - n) (drop n t))) → r ≡ measured (kindFrom d t)
       kind-elementary = with-base (elementaryFrom k (take (n - 6) (drop 6 t))) (base-elementary d k (take (n - 6) (drop 6 t)) y) (elementary-filled d k (take (n - 6) (drop 6 t))) s f
 
+    -- no kind has this number
+    pub kind-low : (k ≡ 9 → ⊥) → k < 1 → 0 ≡ measured (kindFrom d t)
+    kind-low y z =
+        kind-no-elementary 0 y (elementary-other k (take (n - 6) (drop 6 t)) (λ e. omega arith, (λ e. omega arith, (λ e. omega arith, (λ e. omega arith, (λ e. omega arith, (λ e. omega arith, (λ e. omega arith, (λ e. omega arith, tt))))))))) refl
+
+    pub kind-high : (k ≡ 9 → ⊥) → 8 < k → 0 ≡ measured (kindFrom d t)
+    kind-high y z = kind-no-elementary 0 y (elementary-other k (take (n - 6) (drop 6 t)) (λ e. omega arith, (λ e. omega arith, (λ e. omega arith, (λ e. omega arith, (λ e. omega arith, (λ e. omega arith, (λ e. omega arith, (λ e. omega arith, tt))))))))) refl
+
   -- and how long its text may be
   pub kind-small : (s r : ℕ) → 6 ≤ n → s ≤ 2 * length (take (n - 6) (drop 6 t)) + 8 → r ≤ s + 2 * length (take (length t - n) (drop n t)) → r ≤ 2 * length t
   kind-small s r h f g = omega (arith, i .inside, body-length t n (i .inside), rest-length t n)
@@ -204,4 +213,4 @@ module _ (sort : Sort) (d : ℕ) (b : List ℕ) where
           left-next (fieldsIn sort d) (fieldTextFrom sort d) parted (rparen ∷ []) 1 (field-steps sort d) (measured (fieldsIn sort d (length b) b)) b 0 at n i l g p k s z e f (n + (s + 1)) y
           (omega (arith, body-length (take (length b - at) (drop at b)) l (p .inside))) refl
 
-pub ruleset walking = (suffixes-start, suffixes-end, suffixes-none, suffixes-bad, suffixes-next, kind-none, kind-deep, kind-no-tuple, kind-tuple, kind-no-elementary, kind-elementary, kind-small, kind-fits, field-not, field-bad, field-is, field-small, fields-start, fields-empty, fields-end, fields-none, fields-bad, fields-next)
+pub ruleset walking = (suffixes-start, suffixes-end, suffixes-none, suffixes-bad, suffixes-next, kind-none, kind-deep, kind-no-tuple, kind-tuple, kind-no-elementary, kind-elementary, kind-low, kind-high, kind-small, kind-fits, field-not, field-bad, field-is, field-small, fields-start, fields-empty, fields-end, fields-none, fields-bad, fields-next)

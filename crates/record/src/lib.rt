@@ -347,6 +347,13 @@ fn kind(t: &[u8], d: usize) -> usize
     }
     let k = layout::get2(t, 4);
     match k {
+        1..=8 => {
+            let s = elementary(k, &t[6..n]);
+            if s == 0 {
+                return 0;
+            }
+            suffixes(&t[n..], s)
+        }
         9 => {
             if d == 0 {
                 return 0;
@@ -357,13 +364,7 @@ fn kind(t: &[u8], d: usize) -> usize
             }
             suffixes(&t[n..], s)
         }
-        _ => {
-            let s = elementary(k, &t[6..n]);
-            if s == 0 {
-                return 0;
-            }
-            suffixes(&t[n..], s)
-        }
+        _ => 0,
     }
 }
 

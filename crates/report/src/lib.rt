@@ -25,21 +25,11 @@ fn write(out: &mut [u8], o: usize, part: &[u8]) -> usize
     o + part.len()
 }
 
-// A number: its digits from the last to the first.
 fn write_decimal(out: &mut [u8], o: usize, v: u64) -> usize
     requires { ⌜ o + length (decimal v) ≤ length (now out) ⌝ }
     ensures { λ r. ⌜ Put o (decimal v) (now (out .entry)) (now (out .exit)) r ⌝ }
 {
-    let end = o + record::decimal_length(v);
-    let mut i = end;
-    let mut rest = v;
-    while 10 <= rest {
-        i -= 1;
-        out[i] = (48 + rest % 10) as u8;
-        rest = rest / 10;
-    }
-    out[o] = (48 + rest) as u8;
-    end
+    abi::write_decimal(out, o, v)
 }
 
 fn write_keyword(out: &mut [u8], o: usize, keyword: Keyword) -> usize

@@ -7,7 +7,7 @@ ghost use lib.ListN.{length, drop};
 ghost use mathlib.Core.Bool.{_||_};
 ghost use Rattle.kinds.specs.Bytes.{all, between, isAscii, isDigit, isLetter, isWordByte, same};
 ghost use Rattle.kinds.specs.Decimal.{plain, number};
-ghost use Rattle.model.specs.Text.{span, one, isTail, tails, scalar, validLength, isBlank, blank, skip, peek, wordLength, runByte, runLength};
+ghost use Rattle.model.specs.Text.{span, one, tails, scalar, validLength, isBlank, blank, skip, peek, wordLength, runByte, runLength};
 ghost use Rattle.model.specs.KindText.{starts};
 ghost use Rattle.text.specs.Found.{tailOf, codeOf, charFrom, CharIs, Skipped, toOption, Pushed, DigitIs};
 

@@ -8,7 +8,7 @@ ghost use lib.ListN.{length, drop};
 ghost use Rattle.model.specs.KindText.{elementaryOf, peel};
 ghost use Rattle.value.specs.Peeling.{LastIs, BracketAt, PeelIs};
 ghost use Rattle.model.specs.Layout.{littleEndian, recordOf};
-ghost use Rattle.model.specs.Record.{encodeElementary, encodeSuffixes};
+ghost use Rattle.model.specs.Record.{encodeElementary};
 ghost use Rattle.layout.specs.Buffer.{put};
 ghost use Rattle.model.specs.Text.{span, one};
 ghost use Rattle.model.specs.Answer.{said, outcome, after};

@@ -125,3 +125,5 @@ pub +field+fields+kind-spec : {M : Type 1} → statement M
     (λ c κs. search needs)  -- kind-suffixes-requires-2
     (λ c. search (needs, walking))  -- kind-returns-5
     (λ c. search (needs, walking))  -- kind-returns-6
+    (λ c. search (needs, walking))  -- kind-returns-7
+    (λ c. search (needs, walking))  -- kind-returns-8
