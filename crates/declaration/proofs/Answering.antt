@@ -35,7 +35,7 @@ use Rattle.fields.proofs.Family.{is-got, is-bad, is-deep, of-got, of-bad, of-de
 use Rattle.declaration.specs.declared.Admitted.{Admitted}
 use Rattle.declaration.specs.declared.Admitted.the-variants.{Whole as Admits, Not}
 use Rattle.declaration.specs.Stages.{Whole}
-use Rattle.declaration.specs.Outputs.{execOutput, openedOutput, namedOutput, AdmittedIs}
+use Rattle.declaration.specs.Outputs.{execOutput, Finished, FinishEnds, openedOutput, namedOutput, AdmittedIs}
 
 -- scratch holds the record
 pub via-fits : (c₀ c : List ℕ) (a : Ans (List ℕ)) (r : Read) (n l : ℕ) → Whole c₀ c a r → r ≡ Got n l → l ≤ length c
@@ -83,6 +83,29 @@ module _ (s : List ℕ) (k : Keyword) (b c₀ c : List ℕ) (r : Read) (w : Whol
 
     pub via-done : (b₁ : List ℕ) → l ≤ length b → b₁ ≡ put 0 (take l c) b → Ends (execOutput k s) b b₁ (Accepted l)
     via-done b₁ h f = ends-written (execOutput k s) b (Accepted l) bytes b₁ (ap Accepted size) output (omega (arith, size)) (f ∙ ap (λ (u : List ℕ). put 0 u b) front)
+
+-- the same of any reading that stands in scratch
+pub finish-fits : (c : List ℕ) (r : Read) (n l : ℕ) → r ≡ Got n l → Finished c r → l ≤ length c
+finish-fits c r n l e p = via-fits (p .before) c _ r n l (p .whole) e
+
+module _ (b c : List ℕ) (r : Read) where
+  pub finish-bad : (x : Answer) (v : Refusal) (q : ℕ) → r ≡ Bad v q → x ≡ Refused v q → FinishEnds c r b b x
+  finish-bad x v q e f p = via-bad (p .text) (p .keyword) b (p .before) c r (p .whole) x v q e f
+
+  pub finish-deep : (x : Answer) (q : ℕ) → r ≡ Deep q → x ≡ Refused TooDeep q → FinishEnds c r b b x
+  finish-deep x q e f p = via-deep (p .text) (p .keyword) b (p .before) c r (p .whole) x q e f
+
+  module _ (n l : ℕ) (e : r ≡ Got n l) where
+    pub finish-full : (x : Answer) → length b < l → x ≡ Refused NoRoom 0 → FinishEnds c r b b x
+    finish-full x h f p = via-full (p .text) (p .keyword) b (p .before) c r (p .whole) n l e x h f
+
+    pub finish-done : (b₁ : List ℕ) → l ≤ length b → b₁ ≡ put 0 (take l c) b → FinishEnds c r b b₁ (Accepted l)
+    finish-done b₁ h f p = via-done (p .text) (p .keyword) b (p .before) c r (p .whole) n l e b₁ h f
+
+-- a reading of a text, finished
+module _ (s : List ℕ) (k : Keyword) (c₀ c : List ℕ) (r : Read) (w : Whole c₀ c (onAns (encode 4) (exec (parserOf k) s)) r) where
+  pub finish-ends : (b b₁ : List ℕ) (a : Answer) → FinishEnds c r b b₁ a → Ends (execOutput k s) b b₁ a
+  finish-ends b b₁ a h = h (record { text = s; keyword = k; before = c₀; whole = w })
 
 -- the checks that come first
 module _ (s : List ℕ) where
@@ -173,4 +196,4 @@ module _ (s b : List ℕ) (r : Answer) where
           unfolding openedOutput readDeclaration wanted keywordText written
           opens-nothing h f = ends-refused (openedOutput s) b r ExpectDeclaration 0 f (rw (readDeclaration, wanted, ← e₁, f₁, ← e₂, f₂, ← e₃, f₃, ← e₄, h))
 
-pub ruleset answering = (via-bad, via-deep, via-fits, via-full, via-done, admit-long, admit-invalid, admit-whole, whole-small, named-whole, general-whole, named-not, general-not, as-function, as-constructor, as-event, as-error, opens-function, opens-constructor, opens-event, opens-error, opens-nothing)
+pub ruleset answering = (finish-bad, finish-deep, finish-fits, finish-full, finish-done, finish-ends, admit-long, admit-invalid, admit-whole, whole-small, named-whole, general-whole, named-not, general-not, as-function, as-constructor, as-event, as-error, opens-function, opens-constructor, opens-event, opens-error, opens-nothing)

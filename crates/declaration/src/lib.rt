@@ -17,7 +17,7 @@ ghost use Rattle.fields.specs.Scratch.{Room};
 ghost use Rattle.layout.specs.Buffer.{put};
 ghost use Rattle.model.specs.Answer.{said, outcome, after};
 ghost use Rattle.model.specs.Calls.{readOutput};
-ghost use Rattle.declaration.specs.Outputs.{execOutput, AdmittedIs, namedOutput, openedOutput};
+ghost use Rattle.declaration.specs.Outputs.{execOutput, Finished, FinishEnds, AdmittedIs, namedOutput, openedOutput};
 ghost use Rattle.declaration.specs.Stages.{Did, Took, sortOf, statedBy, absent, StatedIs, nameOf, outputsOf, identOf, listIn, returnsOf, keywordIs, frontLength, frontOf, TailIs, bodyOf, Whole};
 
 // Whether a word is a keyword.
@@ -348,13 +348,11 @@ fn refused(refusal: Refusal, position: usize) -> Answer
     Answer::Refused { refusal, position }
 }
 
-// Reads into a scratch buffer that has room, and copies the record.
-fn via(text: &[u8], k: Keyword, scratch: &mut [u8], record: &mut [u8]) -> Answer
-    requires { ⌜ Room 0 32 (now text) 0 0 (now scratch) ⌝ }
-    ensures says { λ r. ⌜ said r ≡ outcome (length (now («record» .entry))) (execOutput k (now (text .entry))) ⌝ }
-    ensures left { λ _. ⌜ now («record» .exit) ≡ after (now («record» .entry)) (execOutput k (now (text .entry))) ⌝ }
+// Copies the record that was read into a scratch buffer.
+fn finish(r: Read, scratch: &[u8], record: &mut [u8]) -> Answer
+    requires { ⌜ Finished (now scratch) r ⌝ }
+    ensures { λ a. ⌜ FinishEnds (now (scratch .entry)) r (now («record» .entry)) (now («record» .exit)) a ⌝ }
 {
-    let r = exec(text, k, scratch);
     match r {
         Read::Got { next: _, len } => {
             if record.len() < len {
@@ -375,7 +373,8 @@ fn tiny(text: &[u8], k: Keyword, record: &mut [u8]) -> Answer
     ensures left { λ _. ⌜ now («record» .exit) ≡ after (now («record» .entry)) (execOutput k (now (text .entry))) ⌝ }
 {
     let mut scratch = [0u8; 960];
-    via(text, k, &mut scratch, record)
+    let r = exec(text, k, &mut scratch);
+    finish(r, &scratch, record)
 }
 
 fn little(text: &[u8], k: Keyword, record: &mut [u8]) -> Answer
@@ -384,7 +383,8 @@ fn little(text: &[u8], k: Keyword, record: &mut [u8]) -> Answer
     ensures left { λ _. ⌜ now («record» .exit) ≡ after (now («record» .entry)) (execOutput k (now (text .entry))) ⌝ }
 {
     let mut scratch = [0u8; 1600];
-    via(text, k, &mut scratch, record)
+    let r = exec(text, k, &mut scratch);
+    finish(r, &scratch, record)
 }
 
 fn small(text: &[u8], k: Keyword, record: &mut [u8]) -> Answer
@@ -393,7 +393,8 @@ fn small(text: &[u8], k: Keyword, record: &mut [u8]) -> Answer
     ensures left { λ _. ⌜ now («record» .exit) ≡ after (now («record» .entry)) (execOutput k (now (text .entry))) ⌝ }
 {
     let mut scratch = [0u8; 2880];
-    via(text, k, &mut scratch, record)
+    let r = exec(text, k, &mut scratch);
+    finish(r, &scratch, record)
 }
 
 fn mid(text: &[u8], k: Keyword, record: &mut [u8]) -> Answer
@@ -402,7 +403,8 @@ fn mid(text: &[u8], k: Keyword, record: &mut [u8]) -> Answer
     ensures left { λ _. ⌜ now («record» .exit) ≡ after (now («record» .entry)) (execOutput k (now (text .entry))) ⌝ }
 {
     let mut scratch = [0u8; 10560];
-    via(text, k, &mut scratch, record)
+    let r = exec(text, k, &mut scratch);
+    finish(r, &scratch, record)
 }
 
 fn large(text: &[u8], k: Keyword, record: &mut [u8]) -> Answer
@@ -411,7 +413,8 @@ fn large(text: &[u8], k: Keyword, record: &mut [u8]) -> Answer
     ensures left { λ _. ⌜ now («record» .exit) ≡ after (now («record» .entry)) (execOutput k (now (text .entry))) ⌝ }
 {
     let mut scratch = [0u8; 41280];
-    via(text, k, &mut scratch, record)
+    let r = exec(text, k, &mut scratch);
+    finish(r, &scratch, record)
 }
 
 // The short sizes apart from the long ones, so that a short text's call has a short stack. Each of the two has several callers, so that the
