@@ -1,5 +1,6 @@
 // The five reading calls. A text is read once, into an array of the call's own, and what was read is copied if all of it fits.
 use fields::Read;
+use fields::Seen;
 use model::Answer;
 use model::Call;
 use model::Keyword;
@@ -13,6 +14,7 @@ ghost use Rattle.kinds.specs.Bytes.{same};
 ghost use Rattle.model.specs.Parser.{onAns, end};
 ghost use Rattle.model.specs.Reading.{keywordText, exec, parserOf};
 ghost use Rattle.model.specs.Record.{encode};
+ghost use Rattle.fields.specs.Words.{Looked};
 ghost use Rattle.fields.specs.Scratch.{Room};
 ghost use Rattle.layout.specs.Buffer.{put};
 ghost use Rattle.model.specs.Answer.{said, outcome, after};
@@ -71,12 +73,12 @@ fn ident(s: &[u8], at: usize, out: &mut [u8], o: usize) -> Read
     }
 }
 
-// `fields`: a list from its `(`, with its record.
-fn field_list(s: &[u8], at: usize, sort: Sort, out: &mut [u8], o: usize) -> Read
-    requires { ⌜ Room 0 32 (now s) at o (now out) ⌝ }
+// `fields`: a list from its `(`, which was looked for at `at`, with its record.
+fn field_list(s: &[u8], at: usize, v: Seen, sort: Sort, out: &mut [u8], o: usize) -> Read
+    requires room { ⌜ Room 0 32 (now s) at o (now out) ⌝ }
+    requires look { ⌜ Looked (now s) at (v .at) (v .byte) ⌝ }
     ensures { λ r. ⌜ Did 0 (now (s .entry)) at o (now (out .entry)) (now (out .exit)) (listIn sort (now (s .entry)) at) r ⌝ }
 {
-    let v = fields::look(s, at);
     if v.byte == 40 {
         let r = fields::list(s, v.at + 1, sort, 32, out, o + 6);
         return match r {
@@ -109,7 +111,7 @@ fn returns(s: &[u8], at: usize, out: &mut [u8], o: usize) -> Read
     let a = w.from;
     let e = w.to;
     if text::equal(b"returns", &s[a..e]) {
-        return field_list(s, e, Sort::Parameter, out, o);
+        return field_list(s, e, fields::look(s, e), Sort::Parameter, out, o);
     }
     layout::header(out, o, 6, 18);
     Read::Got { next: at, len: 6 }
@@ -317,7 +319,7 @@ fn body(s: &[u8], at: usize, k: Keyword, out: &mut [u8]) -> Read
     let a = name(s, at, k, out, o);
     match a {
         Read::Got { next: p, len: n } => {
-            let b = field_list(s, p, sort_of(k), out, o + n);
+            let b = field_list(s, p, fields::look(s, p), sort_of(k), out, o + n);
             match b {
                 Read::Got { next: q, len: i } => tail(s, q, k, out, o + n + i),
                 Read::Bad { refusal: w, at: x } => Read::Bad { refusal: w, at: x },
