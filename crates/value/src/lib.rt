@@ -104,7 +104,7 @@ fn width_behind(t: &[u8]) -> CheckedWidth
         return BitWidth::new(256);
     }
     if text::equal(b"256", t) {
-        return BitWidth::new(256);
+        return BitWidth::new(256u32);
     }
     let n = text::number(256, t);
     match n {
