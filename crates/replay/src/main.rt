@@ -285,7 +285,7 @@ fn says_line(field: &[u8], answer: Answer, line: &[u8]) -> bool {
     }
 }
 
-// A kind's text may be twice as long as its record.
+// No line is twice as long as its record.
 const LINE: usize = 81920;
 
 fn says_kind(row: &[u8], record: &[u8]) -> bool {
