@@ -91,12 +91,13 @@ fn reading(what: &str, texts: &[Vec<u8>]) -> f64 {
     row(&format!("reading, {what}"), texts, spent(texts.len(), [&mut rust, &mut this]))
 }
 
+/// The record of a text, in an allocation of its own length: one of 40,960 bytes for each would
+/// have every record miss the cache.
 fn record(text: &[u8]) -> Vec<u8> {
     let mut buffer = vec![0; MOST_RECORD];
     let (number, length) = ask(&READERS[0], text, &mut buffer);
     assert_eq!(number, 0, "this text is to be read: {}", String::from_utf8_lossy(text));
-    buffer.truncate(length);
-    buffer
+    buffer[..length].to_vec()
 }
 
 /// Canonical texts and signatures of those that have one; hands back the first's ratio.

@@ -10,6 +10,8 @@ use lib.ListN.{length}
 use borrow.Author.Tests.{leb-true}
 use Rattle.kinds.specs.Kind.{canonical}
 use Rattle.model.specs.declared.Sort.the-variants.{Plain, Parameter, Event}
+use Rattle.model.specs.declared.Keyword.{Keyword}
+use Rattle.model.specs.declared.Keyword.the-variants as keyword
 use Rattle.model.specs.declared.Refusal.{Refusal}
 use Rattle.model.specs.declared.Refusal.the-variants.{NotWellFormed, WrongSort}
 use Rattle.model.specs.declared.Answer.{Answer}
@@ -25,7 +27,7 @@ use Rattle.record.specs.declared.Spot.{Spot}
 use Rattle.record.specs.declared.Measured.{Measured}
 use Rattle.record.specs.declared.Checked.{Checked}
 use Rattle.record.specs.declared.Checked.the-variants as checked
-use Rattle.record.specs.Says.{Says, FunctionSaid, ConstructorSaid, EventSaid, ErrorSaid, FieldSaid}
+use Rattle.record.specs.Says.{Says, FunctionSaid, ConstructorSaid, Declares, FieldSaid}
 use Rattle.abi.specs.Lines.{Lined, lineOf, LineEnds, Signed, signatureOf, SignatureEnds, Kinded, KindEnds, NameFound}
 
 -- what is read has at most 40,960 bytes
@@ -86,74 +88,72 @@ nowhere : (b : List ℕ) (w : Refusal) → nameOutput b ≡ refuses w 0 → Name
 unfolding handed refusalNumber
 nowhere b w e = record { there = rw e; order = omega arith; inside = omega arith; number = rw e }
 
+-- a function, an event or an error, by its keyword
+module _ (b : List ℕ) (s : Spot) (ins outs : Measured) where
+  of-function : FunctionSaid b (decode b) s ins outs → Lined b s ins
+  of-function w = record { name = w .name; sort = Parameter; fields = w .ins; named = w .named; listed = w .inputs; short = short b _ (w .same) }
+
+  declared : (w : Keyword) → Declares w b (decode b) s ins outs → decodeLone b ≡ none → Declared b s ins
+  unfolding nameKinds nameOf of-function
+  declared keyword.Function w z = record {
+    tree = Declaration.function (w .mutability) (w .name) (w .ins) (w .outs);
+    same = w .same;
+    line = of-function w;
+    says = refl;
+    named = refl;
+    lone = z;
+  }
+  declared keyword.Constructor w z = absurd w
+  declared keyword.Event w z = record {
+    tree = Declaration.event (w .anonymous) (w .name) (w .ins);
+    same = w .same;
+    line = record { name = w .name; sort = Event; fields = w .ins; named = w .named; listed = w .inputs; short = short b _ (w .same) };
+    says = refl;
+    named = refl;
+    lone = z;
+  }
+  declared keyword.Error w z = record {
+    tree = Declaration.error (w .name) (w .ins);
+    same = w .same;
+    line = record { name = w .name; sort = Plain; fields = w .ins; named = w .named; listed = w .inputs; short = short b _ (w .same) };
+    says = refl;
+    named = refl;
+    lone = z;
+  }
+
 -- by what the check found
 module _ (b : List ℕ) (k : Checked) (i : Says b (decode b) (decodeLone b) k) where
-  module _ (s : Spot) (ins outs : Measured) (e : k ≡ checked.Function s ins outs) where
-    function-said : FunctionSaid b (decode b) s ins outs × (decodeLone b ≡ none)
-    function-said = subst (Says b (decode b) (decodeLone b)) e i
+  module _ (w : Keyword) (s : Spot) (ins outs : Measured) (e : k ≡ checked.Declared w s ins outs) where
+    declared-said : Declares w b (decode b) s ins outs × (decodeLone b ≡ none)
+    declared-said = subst (Says b (decode b) (decodeLone b)) e i
 
-    pub function-declared : Declared b s ins
-    unfolding nameKinds nameOf
-    function-declared = let (w, z) = function-said in record {
-      tree = Declaration.function (w .mutability) (w .name) (w .ins) (w .outs);
-      same = w .same;
-      line = record { name = w .name; sort = Parameter; fields = w .ins; named = w .named; listed = w .inputs; short = short b _ (w .same) };
-      says = refl;
-      named = refl;
-      lone = z;
-    }
+    pub is-declared : Declared b s ins
+    is-declared = declared b s ins outs w (declared-said .0) (declared-said .1)
 
-    pub function-signed : Signed b s ins outs
-    function-signed = let (w, z) = function-said in record {
-      line = record { name = w .name; sort = Parameter; fields = w .ins; named = w .named; listed = w .inputs; short = short b _ (w .same) };
-      sort = Parameter;
-      outputs = w .outs;
-      listed = w .outputs;
-    }
+    declares : (v : Keyword) → w ≡ v → Declares v b (decode b) s ins outs
+    declares v q = subst (λ x. Declares x b (decode b) s ins outs) q (declared-said .0)
 
-    pub function-signature : (text text₁ : List ℕ) (r : Answer) → SignatureEnds b s ins outs text text₁ r → Ends (signatureOutput b) text text₁ r
-    unfolding signatureOutput signatureText canonical lineOf signatureOf function-signed
-    function-signature text text₁ r h =
-        let f : signatureOutput b ≡ writes (signatureOf function-signed) = ap (λ o. ofRecord o (λ d. orWrongSort (signatureText d))) (function-said .0 .same) in
-        rw f (h function-signed)
+    module _ (q : w ≡ keyword.Function) where
+      pub function-signed : Signed b s ins outs
+      function-signed = let f = declares keyword.Function q in record { line = of-function b s ins outs f; sort = Parameter; outputs = f .outs; listed = f .outputs }
 
-  module _ (s : Spot) (ins : Measured) (e : k ≡ checked.Event s ins) where
-    event-said : EventSaid b (decode b) s ins × (decodeLone b ≡ none)
-    event-said = subst (Says b (decode b) (decodeLone b)) e i
+      pub function-signature : (text text₁ : List ℕ) (r : Answer) → SignatureEnds b s ins outs text text₁ r → Ends (signatureOutput b) text text₁ r
+      unfolding signatureOutput signatureText canonical lineOf signatureOf of-function function-signed
+      function-signature text text₁ r h =
+          let f : signatureOutput b ≡ writes (signatureOf function-signed) = ap (λ o. ofRecord o (λ d. orWrongSort (signatureText d))) (declares keyword.Function q .same) in
+          rw f (h function-signed)
 
-    pub event-declared : Declared b s ins
-    unfolding nameKinds nameOf
-    event-declared = let (w, z) = event-said in record {
-      tree = Declaration.event (w .anonymous) (w .name) (w .ins);
-      same = w .same;
-      line = record { name = w .name; sort = Event; fields = w .ins; named = w .named; listed = w .inputs; short = short b _ (w .same) };
-      says = refl;
-      named = refl;
-      lone = z;
-    }
+    module _ (text : List ℕ) (r : Answer) where
+      pub nameless-signature : w ≡ keyword.Constructor → Ends (signatureOutput b) text text r
+      nameless-signature q = absurd (declares keyword.Constructor q)
 
-    pub event-signature : (text : List ℕ) (r : Answer) → r ≡ Refused WrongSort 0 → Ends (signatureOutput b) text text r
-    unfolding signatureText
-    event-signature text r = other-signature b text r _ (event-said .0 .same) refl
+      pub event-signature : w ≡ keyword.Event → r ≡ Refused WrongSort 0 → Ends (signatureOutput b) text text r
+      unfolding signatureText
+      event-signature q = other-signature b text r _ (declares keyword.Event q .same) refl
 
-  module _ (s : Spot) (ins : Measured) (e : k ≡ checked.Error s ins) where
-    error-said : ErrorSaid b (decode b) s ins × (decodeLone b ≡ none)
-    error-said = subst (Says b (decode b) (decodeLone b)) e i
-
-    pub error-declared : Declared b s ins
-    unfolding nameKinds nameOf
-    error-declared = let (w, z) = error-said in record {
-      tree = Declaration.error (w .name) (w .ins);
-      same = w .same;
-      line = record { name = w .name; sort = Plain; fields = w .ins; named = w .named; listed = w .inputs; short = short b _ (w .same) };
-      says = refl;
-      named = refl;
-      lone = z;
-    }
-
-    pub error-signature : (text : List ℕ) (r : Answer) → r ≡ Refused WrongSort 0 → Ends (signatureOutput b) text text r
-    unfolding signatureText
-    error-signature text r = other-signature b text r _ (error-said .0 .same) refl
+      pub error-signature : w ≡ keyword.Error → r ≡ Refused WrongSort 0 → Ends (signatureOutput b) text text r
+      unfolding signatureText
+      error-signature q = other-signature b text r _ (declares keyword.Error q .same) refl
 
   module _ (e : k ≡ checked.Constructor) where
     constructor-said : ConstructorSaid (decode b) × (decodeLone b ≡ none)

@@ -20,7 +20,7 @@ use Rattle.model.proofs.Decoding.{when-some, ended-some}
 use Rattle.layout.specs.Buffer.{put}
 use Rattle.layout.proofs.Puts.{put-then, length-put}
 use Rattle.record.specs.Texts.{elementaryFrom, suffixFrom}
-use Rattle.record.proofs.Lengths.{Misses, select-other}
+use Rattle.record.proofs.Lengths.{select-other}
 use Rattle.record.proofs.There.{test-there}
 use Rattle.abi.specs.Writes.{Room, Wrote}
 use Rattle.abi.proofs.Stores.{store-1, store-2}
@@ -130,9 +130,9 @@ module _ (k : ℕ) (body : List ℕ) (o : ℕ) (b : List ℕ) (q : Room (element
         (put-then o p w (decimal (leValue body)) b b₁ b₂ e (rw j at h) f (omega (arith, number-room)))
         (rw j at i ∙ omega (arith, length-append w (decimal (leValue body))))
 
-pub elementary-missing : (k : ℕ) (body : List ℕ) (o : ℕ) (b b₁ : List ℕ) (r : ℕ) → Misses k elementaryCases → Wrote (elementaryFrom k body) o b b₁ r
-unfolding elementaryFrom decodeElementary
-elementary-missing k body o b b₁ r m = wrote-none (elementaryFrom k body) (ap (λ T. onOption elementaryText (T body)) (select-other k elementaryCases (λ _. none) m)) o b b₁ r
+-- nothing is to be written where there is no text
+pub elementary-missing : (k : ℕ) (body : List ℕ) (o : ℕ) (b b₁ : List ℕ) (r : ℕ) → elementaryFrom k body ≡ none → Wrote (elementaryFrom k body) o b b₁ r
+elementary-missing k body o b b₁ r e = wrote-none (elementaryFrom k body) e o b b₁ r
 
 -- a suffix
 module _ (k : ℕ) (body : List ℕ) (o : ℕ) (b : List ℕ) (q : Room (suffixFrom k body) o b) where

@@ -1,5 +1,6 @@
 // The lines that are written of a record: canonical text, signature and a field's kind; and the name in it.
 use model::Answer;
+use model::Keyword;
 use model::Refusal;
 use record::Checked;
 use record::Measured;
@@ -152,26 +153,40 @@ pub fn write_decimal(out: &mut [u8], o: usize, v: u64) -> usize
 
 // Kinds.
 
+// An elementary kind with a number, by its record's kind and body.
+fn write_numbered(k: usize, body: &[u8], out: &mut [u8], o: usize) -> usize
+    requires { ⌜ Room (elementaryFrom k (now body)) o (now out) × (length (now body) ≡ 2) ⌝ }
+    ensures { λ r. ⌜ Wrote (elementaryFrom k (now (body .entry))) o (now (out .entry)) (now (out .exit)) r ⌝ }
+{
+    let n = layout::get2(body, 0);
+    match k {
+        1 => {
+            let p = write_int(out, o);
+            write_small(out, p, n)
+        }
+        2 => {
+            let p = write_uint(out, o);
+            write_small(out, p, n)
+        }
+        5 => {
+            let p = write_bytes(out, o);
+            write_small(out, p, n)
+        }
+        _ => o,
+    }
+}
+
 // An elementary kind, by its record's kind and body.
 fn write_elementary(k: usize, body: &[u8], out: &mut [u8], o: usize) -> usize
     requires { ⌜ Room (elementaryFrom k (now body)) o (now out) ⌝ }
     ensures { λ r. ⌜ Wrote (elementaryFrom k (now (body .entry))) o (now (out .entry)) (now (out .exit)) r ⌝ }
 {
+    if body.len() == 2 {
+        return write_numbered(k, body, out, o);
+    }
     match k {
-        1 => {
-            let p = write_int(out, o);
-            write_small(out, p, layout::get2(body, 0))
-        }
-        2 => {
-            let p = write_uint(out, o);
-            write_small(out, p, layout::get2(body, 0))
-        }
         3 => write_address(out, o),
         4 => write_bool(out, o),
-        5 => {
-            let p = write_bytes(out, o);
-            write_small(out, p, layout::get2(body, 0))
-        }
         6 => write_function(out, o),
         7 => write_bytes(out, o),
         8 => write_string(out, o),
@@ -360,14 +375,13 @@ pub fn canonical(record: &[u8], text: &mut [u8]) -> Answer
 {
     let c = record::check(record);
     match c {
-        Checked::Function {
+        Checked::Declared {
+            keyword,
             name,
             inputs,
             outputs,
         } => line(record, name, inputs, text),
         Checked::Constructor => refused(Refusal::WrongSort),
-        Checked::Event { name, inputs } => line(record, name, inputs, text),
-        Checked::Error { name, inputs } => line(record, name, inputs, text),
         Checked::Field { name, kind } => refused(Refusal::NotWellFormed),
         Checked::IllFormed => refused(Refusal::NotWellFormed),
     }
@@ -380,14 +394,18 @@ pub fn signature(record: &[u8], text: &mut [u8]) -> Answer
 {
     let c = record::check(record);
     match c {
-        Checked::Function {
+        Checked::Declared {
+            keyword,
             name,
             inputs,
             outputs,
-        } => signature_line(record, name, inputs, outputs, text),
+        } => match keyword {
+            Keyword::Function => signature_line(record, name, inputs, outputs, text),
+            Keyword::Constructor => refused(Refusal::WrongSort),
+            Keyword::Event => refused(Refusal::WrongSort),
+            Keyword::Error => refused(Refusal::WrongSort),
+        },
         Checked::Constructor => refused(Refusal::WrongSort),
-        Checked::Event { name, inputs } => refused(Refusal::WrongSort),
-        Checked::Error { name, inputs } => refused(Refusal::WrongSort),
         Checked::Field { name, kind } => refused(Refusal::NotWellFormed),
         Checked::IllFormed => refused(Refusal::NotWellFormed),
     }
@@ -400,14 +418,13 @@ pub fn kind_text(record: &[u8], text: &mut [u8]) -> Answer
 {
     let c = record::check(record);
     match c {
-        Checked::Function {
+        Checked::Declared {
+            keyword,
             name,
             inputs,
             outputs,
         } => refused(Refusal::NotWellFormed),
         Checked::Constructor => refused(Refusal::NotWellFormed),
-        Checked::Event { name, inputs } => refused(Refusal::NotWellFormed),
-        Checked::Error { name, inputs } => refused(Refusal::NotWellFormed),
         Checked::Field { name, kind } => kind_line(record, kind, text),
         Checked::IllFormed => refused(Refusal::NotWellFormed),
     }
@@ -419,7 +436,8 @@ fn named(record: &[u8], refusal: &mut u32) -> Spot
 {
     let c = record::check(record);
     match c {
-        Checked::Function {
+        Checked::Declared {
+            keyword,
             name,
             inputs,
             outputs,
@@ -430,14 +448,6 @@ fn named(record: &[u8], refusal: &mut u32) -> Spot
         Checked::Constructor => {
             *refusal = 16;
             Spot { from: 0, to: 0 }
-        }
-        Checked::Event { name, inputs } => {
-            *refusal = 0;
-            name
-        }
-        Checked::Error { name, inputs } => {
-            *refusal = 0;
-            name
         }
         Checked::Field { name, kind } => {
             *refusal = 0;

@@ -1,3 +1,4 @@
 pub mod Puts
+pub mod Copies
 pub mod Answers
 pub mod Writes

@@ -25,6 +25,11 @@ pub put2-stores : (b : List ℕ) (o v : ℕ) → o + 2 ≤ length b → set (set
 unfolding littleEndian
 put2-stores b o v h = rw add-one (stores (littleEndian 2 v) b o h)
 
+pub put4-stores : (b : List ℕ) (o v : ℕ) → o + 4 ≤ length b
+    → set (set (set (set b o (v % 256)) (o + 1) (v / 256 % 256)) (o + 2) (v / 256 / 256 % 256)) (o + 3) (v / 256 / 256 / 256 % 256) ≡ put o (littleEndian 4 v) b
+unfolding littleEndian
+put4-stores b o v h = rw (add-one, add-two, add-three) (stores (littleEndian 4 v) b o h)
+
 pub put8-stores : (b : List ℕ) (o v : ℕ) → o + 8 ≤ length b
     → set (set (set (set (set (set (set (set b o (v % 256)) (o + 1) (v / 256 % 256)) (o + 2) (v / 256 / 256 % 256)) (o + 3) (v / 256 / 256 / 256 % 256)) (o + 4) (v / 256 / 256 / 256 / 256 % 256)) (o + 5) (v / 256 / 256 / 256 / 256 / 256 % 256)) (o + 6) (v / 256 / 256 / 256 / 256 / 256 / 256 % 256)) (o + 7) (v / 256 / 256 / 256 / 256 / 256 / 256 / 256 % 256)
     ≡ put o (littleEndian 8 v) b
@@ -199,4 +204,4 @@ unfolding leValue
 get4-sum b at x y z w h p q r s =
     rw (p, q, r, s, add-one, add-two, add-three, drop-cons b at 0 (omega arith), drop-cons b (suc at) 0 (omega arith), drop-cons b (suc (suc at)) 0 (omega arith), drop-cons b (suc (suc (suc at))) 0 (omega arith)) (omega arith)
 
-pub ruleset puts = (put2-stores, put8-stores, header-stores, front-puts, copy-start, copy-next, copy-end, shift-start, shift-next, shift-end, insert-none, insert-end, get2-sum, get4-sum)
+pub ruleset puts = (put2-stores, put4-stores, put8-stores, header-stores, front-puts, copy-start, copy-next, copy-end, shift-start, shift-next, shift-end, insert-none, insert-end, get2-sum, get4-sum)

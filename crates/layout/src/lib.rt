@@ -15,6 +15,20 @@ pub fn put2(out: &mut [u8], o: usize, v: usize)
     out[o + 1] = (a % 256) as u8;
 }
 
+// Writes a number of four bytes at o.
+fn put4(out: &mut [u8], o: usize, v: usize)
+    requires { ⌜ o + 4 ≤ length (now out) ⌝ }
+    ensures { λ _. ⌜ now (out .exit) ≡ put o (littleEndian 4 v) (now (out .entry)) ⌝ }
+{
+    let a = v / 256;
+    let b = a / 256;
+    let c = b / 256;
+    out[o] = (v % 256) as u8;
+    out[o + 1] = (a % 256) as u8;
+    out[o + 2] = (b % 256) as u8;
+    out[o + 3] = (c % 256) as u8;
+}
+
 // Writes a number of eight bytes at o.
 pub fn put8(out: &mut [u8], o: usize, v: u64)
     requires { ⌜ o + 8 ≤ length (now out) ⌝ }
@@ -64,16 +78,56 @@ pub fn front(out: &mut [u8], o: usize, mark: usize, m: usize, l: usize)
     header(out, o + 8, 6 + m, 17);
 }
 
-// Writes the bytes of a part at `at`.
+// Writes the four bytes of a part that stand at i where they belong in its copy at `at`.
+fn copy4(out: &mut [u8], at: usize, src: &[u8], i: usize)
+    requires { ⌜ (i + 4 ≤ length (now src)) × (at + length (now src) ≤ length (now out)) ⌝ }
+    ensures { λ _. ⌜ now (out .exit) ≡ put (at + i) (take 4 (drop i (now (src .entry)))) (now (out .entry)) ⌝ }
+{
+    put4(out, at + i, get4(src, i));
+}
+
+// The same for eight.
+fn copy8(out: &mut [u8], at: usize, src: &[u8], i: usize)
+    requires { ⌜ (i + 8 ≤ length (now src)) × (at + length (now src) ≤ length (now out)) ⌝ }
+    ensures { λ _. ⌜ now (out .exit) ≡ put (at + i) (take 8 (drop i (now (src .entry)))) (now (out .entry)) ⌝ }
+{
+    put8(out, at + i, get8(src, i));
+}
+
+// A part of fewer than eight bytes.
+fn copy_short(out: &mut [u8], at: usize, src: &[u8])
+    requires { ⌜ (length (now src) < 8) × (at + length (now src) ≤ length (now out)) ⌝ }
+    ensures { λ _. ⌜ now (out .exit) ≡ put at (now (src .entry)) (now (out .entry)) ⌝ }
+{
+    let n = src.len();
+    if n < 4 {
+        let mut i = 0;
+        while i < n {
+            out[at + i] = src[i];
+            i += 1;
+        }
+        return;
+    }
+    copy4(out, at, src, 0);
+    copy4(out, at, src, n - 4);
+}
+
+// Writes the bytes of a part at `at`, eight at a time, the last eight once more.
 pub fn copy(out: &mut [u8], at: usize, src: &[u8])
     requires { ⌜ at + length (now src) ≤ length (now out) ⌝ }
     ensures { λ _. ⌜ now (out .exit) ≡ put at (now (src .entry)) (now (out .entry)) ⌝ }
 {
-    let mut i = 0;
-    while i < src.len() {
-        out[at + i] = src[i];
-        i += 1;
+    let n = src.len();
+    if n < 8 {
+        copy_short(out, at, src);
+        return;
     }
+    let mut i = 0;
+    while i + 8 < n {
+        copy8(out, at, src, i);
+        i += 8;
+    }
+    copy8(out, at, src, n - 8);
 }
 
 // Moves the bytes from `at` up to `end` by n bytes.
@@ -114,6 +168,14 @@ pub fn get4(b: &[u8], at: usize) -> usize
     ensures { λ r. ⌜ (r ≡ leValue (take 4 (drop at (now (b .entry))))) × (r < 4294967296) ⌝ }
 {
     wide(b[at]) + 256 * (wide(b[at + 1]) + 256 * (wide(b[at + 2]) + 256 * wide(b[at + 3])))
+}
+
+// The number of eight bytes at `at`.
+pub fn get8(b: &[u8], at: usize) -> u64
+    requires { ⌜ at + 8 ≤ length (now b) ⌝ }
+    ensures { λ r. ⌜ r ≡ leValue (take 8 (drop at (now (b .entry)))) ⌝ }
+{
+    get4(b, at) as u64 + 4294967296 * (get4(b, at + 4) as u64)
 }
 
 fn wide(x: u8) -> usize

@@ -9,12 +9,12 @@ use native.Mathlib.Omega.{arith}
 use lib.Dec.{eqb}
 use lib.ListN.{length, take, drop, length-append}
 use lib.Seq.{take-all}
-use borrow.Author.Tests.{le-leb, lt-leb, eq-eqb, ne-eqb}
+use borrow.Author.Tests.{le-leb, lt-leb, eq-eqb, ne-eqb, eqb-true}
 use Rattle.kinds.specs.Decimal.{decimal}
-use Rattle.kinds.specs.Kind.{bits, octets, isBitWidth, isByteLength, Elementary, int, uint, fixedBytes, address, bool, bytes, string, elementaryText, suffixText, sized, unsized}
+use Rattle.kinds.specs.Kind.{BitWidth, bits, octets, isBitWidth, isByteLength, Elementary, int, uint, fixedBytes, address, bool, bytes, string, elementaryText, suffixText, sized, unsized}
 use Rattle.kinds.proofs.Decimal.{decimal-one, decimal-more, decimal-short}
 use Rattle.model.specs.Layout.{leValue}
-use Rattle.model.specs.Record.{onOption, when, ended, wholly, Case, case, select, elementaryCases, suffixCases, decodeElementary, decodeSuffix}
+use Rattle.model.specs.Record.{onOption, when, ended, wholly, Case, case, select, widthFrom, byteLengthFrom, elementaryCases, suffixCases, decodeElementary, decodeSuffix}
 use Rattle.record.specs.Texts.{measured, numbered, bare, elementaryFrom, suffixFrom}
 
 -- digits: one by itself, and those before the last
@@ -134,29 +134,35 @@ module _ (k : ℕ) (body : List ℕ) (r : ℕ) where
   unfolding elementaryFrom decodeElementary elementaryText
   elementary-uint e f = rw e (f ∙ numbered-text elementaryText 4 body isBitWidth (λ n. uint (bits n)) (λ n. omega arith))
 
-  pub elementary-address : k ≡ 3 → r ≡ bare 7 body → r ≡ measured (elementaryFrom k body)
-  unfolding elementaryFrom decodeElementary elementaryText
-  elementary-address e f = rw e (f ∙ bare-text elementaryText 7 body address refl)
-
-  pub elementary-bool : k ≡ 4 → r ≡ bare 4 body → r ≡ measured (elementaryFrom k body)
-  unfolding elementaryFrom decodeElementary elementaryText
-  elementary-bool e f = rw e (f ∙ bare-text elementaryText 4 body bool refl)
-
   pub elementary-fixed : k ≡ 5 → r ≡ numbered isByteLength 5 body → r ≡ measured (elementaryFrom k body)
   unfolding elementaryFrom decodeElementary elementaryText
   elementary-fixed e f = rw e (f ∙ numbered-text elementaryText 5 body isByteLength (λ n. fixedBytes (octets n)) (λ n. omega arith))
 
-  pub elementary-function : k ≡ 6 → r ≡ bare 8 body → r ≡ measured (elementaryFrom k body)
-  unfolding elementaryFrom decodeElementary elementaryText
-  elementary-function e f = rw e (f ∙ bare-text elementaryText 8 body Elementary.function refl)
+-- a word alone
+module _ (k : ℕ) where
+  pub worded-address : k ≡ 3 → 7 ≡ measured (elementaryFrom k [])
+  unfolding measured elementaryFrom decodeElementary elementaryText
+  worded-address e = rw e
 
-  pub elementary-bytes : k ≡ 7 → r ≡ bare 5 body → r ≡ measured (elementaryFrom k body)
-  unfolding elementaryFrom decodeElementary elementaryText
-  elementary-bytes e f = rw e (f ∙ bare-text elementaryText 5 body bytes refl)
+  pub worded-bool : k ≡ 4 → 4 ≡ measured (elementaryFrom k [])
+  unfolding measured elementaryFrom decodeElementary elementaryText
+  worded-bool e = rw e
 
-  pub elementary-string : k ≡ 8 → r ≡ bare 6 body → r ≡ measured (elementaryFrom k body)
-  unfolding elementaryFrom decodeElementary elementaryText
-  elementary-string e f = rw e (f ∙ bare-text elementaryText 6 body string refl)
+  pub worded-function : k ≡ 6 → 8 ≡ measured (elementaryFrom k [])
+  unfolding measured elementaryFrom decodeElementary elementaryText
+  worded-function e = rw e
+
+  pub worded-bytes : k ≡ 7 → 5 ≡ measured (elementaryFrom k [])
+  unfolding measured elementaryFrom decodeElementary elementaryText
+  worded-bytes e = rw e
+
+  pub worded-string : k ≡ 8 → 6 ≡ measured (elementaryFrom k [])
+  unfolding measured elementaryFrom decodeElementary elementaryText
+  worded-string e = rw e
+
+pub elementary-alone : (k : ℕ) (body : List ℕ) (r : ℕ) → length body ≡ 0 → r ≡ measured (elementaryFrom k []) → r ≡ measured (elementaryFrom k body)
+elementary-alone k [] r h e = e
+elementary-alone k (c ∷ t) r h e = absurd (omega arith)
 
 -- a number that none of the cases has
 module _ {A : Type 0} where
@@ -179,6 +185,52 @@ module _ {A : Type 0} (n : ℕ) (body : List ℕ) (f : ℕ → Option A) where
   wholly-not : (length body ≡ n → ⊥) → wholly n body f ≡ none
   wholly-not h = rw (wholly, ne-eqb (length body) n h)
 
+-- a body that the case of a number does not take
+module _ {A : Type 0} (k : ℕ) (body : List ℕ) where
+  abbrev pub Refuses : List (Case (List ℕ → Option A)) → Type 0
+  Refuses [] = Unit {0}
+  Refuses (case n f ∷ cs) = (k ≡ n → f body ≡ none) × Refuses cs
+
+  select-none : (cs : List (Case (List ℕ → Option A))) → Refuses cs → select cs (λ _. none) k body ≡ none
+  select-none [] m = refl
+  select-none (case n f ∷ cs) m = go (eqb n k) refl (select-none cs (m .1))
+    where
+      go : (t : Bool) → eqb n k ≡ t → select cs (λ _. none) k body ≡ none → (elim t as (λ _. List ℕ → Option A) [ true ↦ f | false ↦ select cs (λ _. none) k ]) body ≡ none
+      go true q e = m .0 (sym (eqb-true n k q))
+      go false q e = e
+
+no-width : (f : BitWidth → Elementary) (body : List ℕ) → (length body ≡ 2 → ⊥) → widthFrom f body ≡ none
+no-width f body h = wholly-not 2 body (λ n. when (isBitWidth n) (some (f (bits n)))) h
+
+no-length : (body : List ℕ) → (length body ≡ 2 → ⊥) → byteLengthFrom body ≡ none
+no-length body h = wholly-not 2 body (λ n. when (isByteLength n) (some (fixedBytes (octets n)))) h
+
+not-ended : {A : Type 0} (body : List ℕ) (a : A) → (length body ≡ 0 → ⊥) → ended body (some a) ≡ none
+not-ended [] a h = absurd (h refl)
+not-ended (c ∷ t) a h = refl
+
+module _ (k : ℕ) (body : List ℕ) where
+  refused : Refuses k body elementaryCases → elementaryFrom k body ≡ none
+  unfolding elementaryFrom decodeElementary
+  refused m = rw (elementaryFrom, decodeElementary, select-none k body elementaryCases m)
+
+  -- a number and a kind that has none, no number and a kind that has one, and neither
+  pub elementary-numbered : (length body ≡ 0 → ⊥) → (k ≡ 1 → ⊥) → (k ≡ 2 → ⊥) → (k ≡ 5 → ⊥) → elementaryFrom k body ≡ none
+  elementary-numbered h a b c =
+      refused (λ q. absurd (a q), (λ q. absurd (b q), (λ _. not-ended body _ h, (λ _. not-ended body _ h, (λ q. absurd (c q), (λ _. not-ended body _ h, (λ _. not-ended body _ h, (λ _. not-ended body _ h, tt))))))))
+
+  pub elementary-worded : (length body ≡ 2 → ⊥) → (k ≡ 3 → ⊥) → (k ≡ 4 → ⊥) → (k ≡ 6 → ⊥) → (k ≡ 7 → ⊥) → (k ≡ 8 → ⊥) → elementaryFrom k body ≡ none
+  elementary-worded h a b c d e =
+      refused (λ _. no-width int body h, (λ _. no-width uint body h, (λ q. absurd (a q), (λ q. absurd (b q), (λ _. no-length body h, (λ q. absurd (c q), (λ q. absurd (d q), (λ q. absurd (e q), tt))))))))
+
+  pub elementary-odd : (length body ≡ 2 → ⊥) → (length body ≡ 0 → ⊥) → elementaryFrom k body ≡ none
+  elementary-odd h z =
+      refused (λ _. no-width int body h, (λ _. no-width uint body h, (λ _. not-ended body _ z, (λ _. not-ended body _ z, (λ _. no-length body h, (λ _. not-ended body _ z, (λ _. not-ended body _ z, (λ _. not-ended body _ z, tt))))))))
+
+pub measured-none : (t : Option (List ℕ)) → t ≡ none → 0 ≡ measured t
+unfolding measured
+measured-none t e = rw e
+
 module _ (k : ℕ) (body : List ℕ) where
   pub suffix-sized : (v n : ℕ) → k ≡ 10 → length body ≡ 8 → v ≡ leValue body → n ≡ length (decimal v) → 2 + n ≡ measured (suffixFrom k body)
   unfolding suffixFrom decodeSuffix suffixText measured
@@ -198,4 +250,4 @@ module _ (k : ℕ) (body : List ℕ) where
   unfolding suffixFrom decodeSuffix measured
   suffix-other g h = ap (λ T. measured (onOption suffixText (T body))) (sym (select-other k suffixCases (λ _. none) (g, (h, tt))))
 
-pub ruleset lengths = (counted-start, counted-next, counted-end, counted-small, small-one, small-two, small-three, numbered-not, width-most, width-zero, width-large, width-odd, width-is, byte-length-zero, byte-length-large, byte-length-is, bare-is, bare-not, elementary-int, elementary-uint, elementary-address, elementary-bool, elementary-fixed, elementary-function, elementary-bytes, elementary-string, elementary-other, suffix-sized, suffix-odd, suffix-open, suffix-other)
+pub ruleset lengths = (counted-start, counted-next, counted-end, counted-small, small-one, small-two, small-three, numbered-not, width-most, width-zero, width-large, width-odd, width-is, byte-length-zero, byte-length-large, byte-length-is, bare-is, bare-not, elementary-int, elementary-uint, elementary-fixed, worded-address, worded-bool, worded-function, worded-bytes, worded-string, suffix-sized, suffix-odd, suffix-open, suffix-other)

@@ -14,6 +14,7 @@ use Rattle.kinds.specs.Bytes.{between, isWord}
 use Rattle.kinds.specs.Kind.{Kind, kindText}
 use Rattle.model.specs.declared.Sort.{Sort}
 use Rattle.model.specs.declared.Sort.the-variants.{Plain, Parameter, Event}
+use Rattle.model.specs.declared.Keyword.the-variants as keyword
 use Rattle.model.specs.Tree.{Fields, kindsOf, Declaration}
 use Rattle.model.specs.Layout.{leValue, Piece, piece, noPiece, pieceOf}
 use Rattle.model.specs.Record.{given, onOption, when, ended, onPiece, ofKind, fronted, decodeField, decodeFields, listFrom, nameFrom, functionFrom, constructorFrom, eventFrom, errorFrom}
@@ -207,7 +208,7 @@ module _ (b : List ℕ) where
             pub function-more : (u .to ≡ length b → ⊥) → Says b (functionFrom 4 (drop 6 b)) none checked.IllFormed
             function-more w = (function-outputs ∙ ended-more b (u .to) _ (k .inside) w, refl)
 
-            pub function-is : u .to ≡ length b → m ≤ 3 → Says b (functionFrom 4 (drop 6 b)) none (checked.Function (record { from = 14; to = p }) l u)
+            pub function-is : u .to ≡ length b → m ≤ 3 → Says b (functionFrom 4 (drop 6 b)) none (checked.Declared keyword.Function (record { from = 14; to = p }) l u)
             unfolding name-part
             function-is w g = (
               record {
@@ -294,8 +295,8 @@ module _ (b : List ℕ) where
           pub event-more : (l .to ≡ length b → ⊥) → Says b (eventFrom 4 (drop 6 b)) none checked.IllFormed
           event-more w = (event-inputs ∙ ended-more b (l .to) _ (j .inside) w, refl)
 
-          pub event-is : l .to ≡ length b → a ≤ 1 → Says b (eventFrom 4 (drop 6 b)) none (checked.Event (record { from = 14; to = p }) l)
-          event-is w g = (
+          pub event-is : (u : Measured) → l .to ≡ length b → a ≤ 1 → Says b (eventFrom 4 (drop 6 b)) none (checked.Declared keyword.Event (record { from = 14; to = p }) l u)
+          event-is u w g = (
             record {
               anonymous = a;
               name = take (p - 14) (drop 14 b);
@@ -332,8 +333,8 @@ module _ (b : List ℕ) (p : ℕ) (i : NameEnds b 6 p) where
       pub error-more : (l .to ≡ length b → ⊥) → Says b (errorFrom 4 (drop 6 b)) none checked.IllFormed
       error-more w = (error-inputs ∙ ended-more b (l .to) _ (j .inside) w, refl)
 
-      pub error-is : l .to ≡ length b → Says b (errorFrom 4 (drop 6 b)) none (checked.Error (record { from = 12; to = p }) l)
-      error-is w = (
+      pub error-is : (u : Measured) → l .to ≡ length b → Says b (errorFrom 4 (drop 6 b)) none (checked.Declared keyword.Error (record { from = 12; to = p }) l u)
+      error-is u w = (
         record {
           name = take (p - 12) (drop 12 b);
           ins = j .some y .fs;

@@ -8,6 +8,8 @@ use lib.ListN.{length, take, drop}
 use Rattle.kinds.specs.Kind.{Kind, kindText}
 use Rattle.model.specs.declared.Sort.{Sort}
 use Rattle.model.specs.declared.Sort.the-variants.{Plain, Parameter, Event as EventSort}
+use Rattle.model.specs.declared.Keyword.{Keyword}
+use Rattle.model.specs.declared.Keyword.the-variants as keyword
 use Rattle.model.specs.Tree.{Field, Fields, kindsOf, Declaration}
 use Rattle.model.specs.Reading.{deepest}
 use Rattle.model.specs.Record.{decodeFields, listFrom, nameFrom}
@@ -70,6 +72,13 @@ pub record ErrorSaid (b : List ℕ) (o : Option Declaration) (s : Spot) (i : Mea
   pub named : NameSaid b s name
   pub inputs : ListSaid b Plain i ins
 
+-- the same by its keyword; a constructor has no name
+abbrev pub Declares : Keyword → List ℕ → Option Declaration → Spot → Measured → Measured → Type 0
+Declares keyword.Function b o s i u = FunctionSaid b o s i u
+Declares keyword.Constructor b o s i u = ⊥
+Declares keyword.Event b o s i u = EventSaid b o s i
+Declares keyword.Error b o s i u = ErrorSaid b o s i
+
 -- f is the field that b says by itself
 pub record FieldSaid (b : List ℕ) (f : Option Field) (s : Spot) (l : Measured) : Type 0 where
   pub tree : Field
@@ -79,10 +88,8 @@ pub record FieldSaid (b : List ℕ) (f : Option Field) (s : Spot) (l : Measured)
 
 -- the cases of the answer, where o is the declaration that the record b says, if it is one, and f the field
 abbrev pub Says : List ℕ → Option Declaration → Option Field → Checked → Type 0
-Says b o f (checked.Function s i u) = FunctionSaid b o s i u × (f ≡ none)
+Says b o f (checked.Declared k s i u) = Declares k b o s i u × (f ≡ none)
 Says b o f checked.Constructor = ConstructorSaid o × (f ≡ none)
-Says b o f (checked.Event s i) = EventSaid b o s i × (f ≡ none)
-Says b o f (checked.Error s i) = ErrorSaid b o s i × (f ≡ none)
 Says b o f (checked.Field s l) = (o ≡ none) × FieldSaid b f s l
 Says b o f checked.IllFormed = (o ≡ none) × (f ≡ none)
 

@@ -1,5 +1,6 @@
 // Whether bytes that anyone may hand in are a record, and how long the texts are of what they say.
 // Lengths of texts are 0 where there is none: no kind has an empty text.
+use model::Keyword;
 use model::Sort;
 ghost use mathlib.Core.Path.{_≡_};
 ghost use Prim.Native.Nat.{_+_, _*_, _≤_, _<_};
@@ -9,7 +10,7 @@ ghost use Rattle.kinds.specs.Decimal.{decimal};
 ghost use Rattle.kinds.specs.Kind.{isBitWidth, isByteLength};
 ghost use Rattle.model.specs.Layout.{littleEndian, leValue};
 ghost use mathlib.Core.Bool.{true};
-ghost use mathlib.Core.List.{_++_};
+ghost use mathlib.Core.List.{[], _++_};
 ghost use mathlib.Core.Option.{none};
 ghost use Rattle.model.specs.declared.Sort.the-variants.{Plain};
 ghost use Rattle.model.specs.Record.{isFieldName, isMark, decodeField, functionFrom, constructorFrom, eventFrom, errorFrom, decode, decodeLone};
@@ -126,21 +127,45 @@ fn bare(word: usize, body: &[u8]) -> usize
     0
 }
 
-// The text of an elementary kind, by its record's kind and body.
-fn elementary(k: usize, body: &[u8]) -> usize
+// The text of an elementary kind with a number, by its record's kind and body.
+fn numbered(k: usize, body: &[u8]) -> usize
+    requires { ⌜ length (now body) ≡ 2 ⌝ }
     ensures { λ r. ⌜ (r ≡ measured (elementaryFrom k (now (body .entry)))) × (r ≤ 8) ⌝ }
 {
     match k {
         1 => width(3, body),
         2 => width(4, body),
-        3 => bare(7, body),
-        4 => bare(4, body),
         5 => byte_length(5, body),
-        6 => bare(8, body),
-        7 => bare(5, body),
-        8 => bare(6, body),
         _ => 0,
     }
+}
+
+// The same for one without.
+fn worded(k: usize) -> usize
+    ensures { λ r. ⌜ (r ≡ measured (elementaryFrom k [])) × (r ≤ 8) ⌝ }
+{
+    match k {
+        3 => 7,
+        4 => 4,
+        6 => 8,
+        7 => 5,
+        8 => 6,
+        _ => 0,
+    }
+}
+
+// The text of an elementary kind, by its record's kind and body. The body's length comes first: it parts the kinds more evenly than a jump by
+// kind does.
+fn elementary(k: usize, body: &[u8]) -> usize
+    ensures { λ r. ⌜ (r ≡ measured (elementaryFrom k (now (body .entry)))) × (r ≤ 8) ⌝ }
+{
+    if body.len() == 2 {
+        return numbered(k, body);
+    }
+    if body.len() == 0 {
+        return worded(k);
+    }
+    0
 }
 
 // The text of a suffix, by its record's kind and body.
@@ -382,22 +407,15 @@ pub struct Measured {
 }
 
 // What a record says: where its name and its lists stand, and how long the lists are in brackets; for a field, where its name and its kind
-// stand, and how long its kind is. What each case means is in specs/Says.antt.
+// stand, and how long its kind is. Only a function has outputs. What each case means is in specs/Says.antt.
 pub enum Checked {
-    Function {
+    Declared {
+        keyword: Keyword,
         name: Spot,
         inputs: Measured,
         outputs: Measured,
     },
     Constructor,
-    Event {
-        name: Spot,
-        inputs: Measured,
-    },
-    Error {
-        name: Spot,
-        inputs: Measured,
-    },
     Field {
         name: Spot,
         kind: Measured,
@@ -478,7 +496,8 @@ fn function(b: &[u8]) -> Checked
         return Checked::IllFormed;
     }
     if outputs.to == b.len() {
-        return Checked::Function {
+        return Checked::Declared {
+            keyword: Keyword::Function,
             name: Spot { from: 14, to: p },
             inputs,
             outputs,
@@ -532,9 +551,11 @@ fn event(b: &[u8]) -> Checked
         return Checked::IllFormed;
     }
     if inputs.to == b.len() {
-        return Checked::Event {
+        return Checked::Declared {
+            keyword: Keyword::Event,
             name: Spot { from: 14, to: p },
             inputs,
+            outputs: missing(),
         };
     }
     Checked::IllFormed
@@ -554,9 +575,11 @@ fn error(b: &[u8]) -> Checked
         return Checked::IllFormed;
     }
     if inputs.to == b.len() {
-        return Checked::Error {
+        return Checked::Declared {
+            keyword: Keyword::Error,
             name: Spot { from: 12, to: p },
             inputs,
+            outputs: missing(),
         };
     }
     Checked::IllFormed

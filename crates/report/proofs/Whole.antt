@@ -35,7 +35,7 @@ use Rattle.record.specs.declared.Spot.{Spot}
 use Rattle.record.specs.declared.Measured.{Measured}
 use Rattle.record.specs.declared.Checked.{Checked}
 use Rattle.record.specs.declared.Checked.the-variants as checked
-use Rattle.record.specs.Says.{NameSaid, ListSaid, FunctionSaid, EventSaid, ErrorSaid, Says}
+use Rattle.record.specs.Says.{NameSaid, ListSaid, FunctionSaid, EventSaid, ErrorSaid, Declares, Says}
 use Rattle.abi.proofs.Stores.{put-none}
 use Rattle.report.specs.Lines.{Put, okFront, lineBy, recordLine}
 use Rattle.report.proofs.Parts.{put-then, put-as, short-front}
@@ -141,25 +141,19 @@ of-error : (b : List ℕ) (s : Spot) (i : Measured) → ErrorSaid b (decode b) s
 unfolding nameKinds keywordIn canonical
 of-error b s i f = has-line b (Declaration.error (f .name) (f .ins)) _ key.Error (f .same) refl refl (lengths b s (f .name) _ i (f .ins) (f .named) (f .inputs))
 
+of-keyword : (b : List ℕ) (k : Keyword) (s : Spot) (i o : Measured) → Declares k b (decode b) s i o → HasLine b k
+of-keyword b key.Function s i o f = of-function b s i o f
+of-keyword b key.Constructor s i o f = absurd f
+of-keyword b key.Event s i o f = of-event b s i f
+of-keyword b key.Error s i o f = of-error b s i f
+
 module _ (b : List ℕ) (c : Checked) (h : Says b (decode b) (decodeLone b) c) where
-  pub function-line : (s : Spot) (i o : Measured) → c ≡ checked.Function s i o → HasLine b key.Function
-  function-line s i o e = of-function b s i o ((rw e at h) .0)
-
-  pub event-line : (s : Spot) (i : Measured) → c ≡ checked.Event s i → HasLine b key.Event
-  event-line s i e = of-event b s i ((rw e at h) .0)
-
-  pub error-line : (s : Spot) (i : Measured) → c ≡ checked.Error s i → HasLine b key.Error
-  error-line s i e = of-error b s i ((rw e at h) .0)
+  pub declared-line : (k : Keyword) (s : Spot) (i o : Measured) → c ≡ checked.Declared k s i o → HasLine b k
+  declared-line k s i o e = of-keyword b k s i o ((rw e at h) .0)
 
   module _ (out out₁ : List ℕ) (r : ℕ) where
-    pub function-put : (s : Spot) (i o : Measured) → c ≡ checked.Function s i o → Put 0 (okFront key.Function (length b) ++ handed (canonicalOutput b)) out out₁ r → Put 0 (recordLine b) out out₁ r
-    function-put s i o e p = put-as 0 _ _ out out₁ r (sym (function-line s i o e .line)) p
-
-    pub event-put : (s : Spot) (i : Measured) → c ≡ checked.Event s i → Put 0 (okFront key.Event (length b) ++ handed (canonicalOutput b)) out out₁ r → Put 0 (recordLine b) out out₁ r
-    event-put s i e p = put-as 0 _ _ out out₁ r (sym (event-line s i e .line)) p
-
-    pub error-put : (s : Spot) (i : Measured) → c ≡ checked.Error s i → Put 0 (okFront key.Error (length b) ++ handed (canonicalOutput b)) out out₁ r → Put 0 (recordLine b) out out₁ r
-    error-put s i e p = put-as 0 _ _ out out₁ r (sym (error-line s i e .line)) p
+    pub declared-put : (k : Keyword) (s : Spot) (i o : Measured) → c ≡ checked.Declared k s i o → Put 0 (okFront k (length b) ++ handed (canonicalOutput b)) out out₁ r → Put 0 (recordLine b) out out₁ r
+    declared-put k s i o e p = put-as 0 _ _ out out₁ r (sym (declared-line k s i o e .line)) p
 
     pub constructor-put : c ≡ checked.Constructor → Put 0 (okFront key.Constructor (length b) ++ ascii "-") out out₁ r → Put 0 (recordLine b) out out₁ r
     unfolding recordLine lineBy keywordIn canonicalText nameKinds

@@ -97,14 +97,13 @@ fn accepted(record: &[u8], out: &mut [u8]) -> usize
 {
     let c = record::check(record);
     match c {
-        Checked::Function {
+        Checked::Declared {
+            keyword,
             name,
             inputs,
             outputs,
-        } => lined(Keyword::Function, record, out),
+        } => lined(keyword, record, out),
         Checked::Constructor => dashed(record, out),
-        Checked::Event { name, inputs } => lined(Keyword::Event, record, out),
-        Checked::Error { name, inputs } => lined(Keyword::Error, record, out),
         Checked::Field { name, kind } => 0,
         Checked::IllFormed => 0,
     }

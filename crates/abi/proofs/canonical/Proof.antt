@@ -1,4 +1,4 @@
-use Rattle.abi.proofs.Calls.{Declared, declared-canonical, no-canonical, function-declared, event-declared, error-declared, constructor-canonical, field-none, ill-none}
+use Rattle.abi.proofs.Calls.{Declared, declared-canonical, no-canonical, is-declared, constructor-canonical, field-none, ill-none}
 use borrow.Author.Needs.{needs}
 use Rattle.abi.proofs.canonical.Statement.{statement}
 use Rattle.abi.proofs.canonical.Tie as tie
@@ -8,93 +8,61 @@ use Rattle.abi.proofs.line.Reads as line-reads
 use Rattle.abi.proofs.refused.Reads as refused-reads
 use Rattle.record.proofs.check.Reads as check-reads
 
--- src/lib.rt:362:9
+-- src/lib.rt:376:9
 check-requires : tie.Need-check-requires
 check-requires c κs = search needs
 
--- src/lib.rt:365:13
+-- src/lib.rt:379:13
 enum-known-c : tie.Need-enum-known-c
 enum-known-c c = search needs
 
--- src/lib.rt:368:14
+-- src/lib.rt:383:14
 line-requires : tie.Need-line-requires
-line-requires c κs = (function-declared _ _ (c .before .before .before .before .check .ensures) _ _ _ (c .before .before .c .given .1)) .line
+line-requires c κs = (is-declared _ _ (c .before .before .before .before .check .ensures) _ _ _ _ (c .before .before .c .given .1)) .line
 
--- src/lib.rt:369:41
+-- src/lib.rt:384:41
 enum-told : tie.Need-enum-told
 enum-told c = search needs
 
--- src/lib.rt:369:33
+-- src/lib.rt:384:33
 refused-requires : tie.Need-refused-requires
 refused-requires c κs = search needs
 
--- src/lib.rt:370:26
+-- src/lib.rt:385:26
 enum-known-c-2 : tie.Need-enum-known-c-2
 enum-known-c-2 c = search needs
 
--- src/lib.rt:370:44
-line-requires-2 : tie.Need-line-requires-2
-line-requires-2 c κs = (event-declared _ _ (c .before .before .before .before .check .ensures) _ _ (c .before .before .c2 .given .1)) .line
-
--- src/lib.rt:371:26
-enum-known-c-3 : tie.Need-enum-known-c-3
-enum-known-c-3 c = search needs
-
--- src/lib.rt:371:44
-line-requires-3 : tie.Need-line-requires-3
-line-requires-3 c κs = (error-declared _ _ (c .before .before .before .before .check .ensures) _ _ (c .before .before .c3 .given .1)) .line
-
--- src/lib.rt:372:26
-enum-known-c-4 : tie.Need-enum-known-c-4
-enum-known-c-4 c = search needs
-
--- src/lib.rt:372:42
+-- src/lib.rt:385:42
 refused-requires-2 : tie.Need-refused-requires-2
 refused-requires-2 c κs = search needs
 
--- src/lib.rt:373:39
+-- src/lib.rt:386:39
 enum-told-2 : tie.Need-enum-told-2
 enum-told-2 c = search needs
 
--- src/lib.rt:373:31
+-- src/lib.rt:386:31
 refused-requires-3 : tie.Need-refused-requires-3
 refused-requires-3 c κs = search needs
 
--- src/lib.rt:358:1
+-- src/lib.rt:372:1
 same-length : tie.Need-same-length
 same-length c = search needs
 
--- src/lib.rt:358:1
+-- src/lib.rt:372:1
 returns : tie.Need-returns
-returns c = declared-canonical _ _ _ (function-declared _ _ (c .before .before .before .before .before .before .before .check .ensures) _ _ _ (c .before .before .before .before .before .c .given .1)) _ _ _ (c .before .before .line .ensures)
+returns c = declared-canonical _ _ _ (is-declared _ _ (c .before .before .before .before .before .before .before .check .ensures) _ _ _ _ (c .before .before .before .before .before .c .given .1)) _ _ _ (c .before .before .line .ensures)
 
--- src/lib.rt:358:1
+-- src/lib.rt:372:1
 returns-2 : tie.Need-returns-2
 returns-2 c = constructor-canonical _ _ (c .before .before .before .check .ensures) (c .before .enum-told .given .1) _ _ (c .refused .ensures)
 
--- src/lib.rt:358:1
-same-length-2 : tie.Need-same-length-2
-same-length-2 c = search needs
-
--- src/lib.rt:358:1
+-- src/lib.rt:372:1
 returns-3 : tie.Need-returns-3
-returns-3 c = declared-canonical _ _ _ (event-declared _ _ (c .before .before .before .before .before .before .before .check .ensures) _ _ (c .before .before .before .before .before .c2 .given .1)) _ _ _ (c .before .before .line2 .ensures)
+returns-3 c = no-canonical _ _ _ (field-none _ _ (c .before .before .before .before .check .ensures) _ _ (c .before .before .c2 .given .1)) (c .refused2 .ensures)
 
--- src/lib.rt:358:1
-same-length-3 : tie.Need-same-length-3
-same-length-3 c = search needs
-
--- src/lib.rt:358:1
+-- src/lib.rt:372:1
 returns-4 : tie.Need-returns-4
-returns-4 c = declared-canonical _ _ _ (error-declared _ _ (c .before .before .before .before .before .before .before .check .ensures) _ _ (c .before .before .before .before .before .c3 .given .1)) _ _ _ (c .before .before .line3 .ensures)
-
--- src/lib.rt:358:1
-returns-5 : tie.Need-returns-5
-returns-5 c = no-canonical _ _ _ (field-none _ _ (c .before .before .before .before .check .ensures) _ _ (c .before .before .c4 .given .1)) (c .refused2 .ensures)
-
--- src/lib.rt:358:1
-returns-6 : tie.Need-returns-6
-returns-6 c = no-canonical _ _ _ (ill-none _ _ (c .before .before .before .check .ensures) (c .before .enum-told2 .given .1)) (c .refused3 .ensures)
+returns-4 c = no-canonical _ _ _ (ill-none _ _ (c .before .before .before .check .ensures) (c .before .enum-told2 .given .1)) (c .refused3 .ensures)
 
 pub canonical-spec : {M : Type 1} → statement M
 canonical-spec =
@@ -106,19 +74,11 @@ canonical-spec =
     enum-told
     refused-requires
     enum-known-c-2
-    line-requires-2
-    enum-known-c-3
-    line-requires-3
-    enum-known-c-4
     refused-requires-2
     enum-told-2
     refused-requires-3
     same-length
     returns
     returns-2
-    same-length-2
     returns-3
-    same-length-3
-    returns-4
-    returns-5
-    returns-6)
+    returns-4)

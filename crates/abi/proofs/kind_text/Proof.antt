@@ -1,4 +1,4 @@
-use Rattle.abi.proofs.Calls.{Declared, no-kind, function-declared, event-declared, error-declared, constructor-kind, field-kinded, field-kind, ill-lone}
+use Rattle.abi.proofs.Calls.{Declared, no-kind, is-declared, constructor-kind, field-kinded, field-kind, ill-lone}
 use borrow.Author.Needs.{needs}
 use Rattle.abi.proofs.kind_text.Statement.{statement}
 use Rattle.abi.proofs.kind_text.Tie as tie
@@ -8,85 +8,61 @@ use Rattle.abi.proofs.kind_line.Reads as kind-line-reads
 use Rattle.abi.proofs.refused.Reads as refused-reads
 use Rattle.record.proofs.check.Reads as check-reads
 
--- src/lib.rt:402:9
+-- src/lib.rt:419:9
 check-requires : tie.Need-check-requires
 check-requires c κs = search needs
 
--- src/lib.rt:405:13
+-- src/lib.rt:422:13
 enum-known-c : tie.Need-enum-known-c
 enum-known-c c = search needs
 
--- src/lib.rt:408:14
+-- src/lib.rt:426:14
 refused-requires : tie.Need-refused-requires
 refused-requires c κs = search needs
 
--- src/lib.rt:409:41
+-- src/lib.rt:427:41
 enum-told : tie.Need-enum-told
 enum-told c = search needs
 
--- src/lib.rt:409:33
+-- src/lib.rt:427:33
 refused-requires-2 : tie.Need-refused-requires-2
 refused-requires-2 c κs = search needs
 
--- src/lib.rt:410:26
+-- src/lib.rt:428:26
 enum-known-c-2 : tie.Need-enum-known-c-2
 enum-known-c-2 c = search needs
 
--- src/lib.rt:410:44
-refused-requires-3 : tie.Need-refused-requires-3
-refused-requires-3 c κs = search needs
-
--- src/lib.rt:411:26
-enum-known-c-3 : tie.Need-enum-known-c-3
-enum-known-c-3 c = search needs
-
--- src/lib.rt:411:44
-refused-requires-4 : tie.Need-refused-requires-4
-refused-requires-4 c κs = search needs
-
--- src/lib.rt:412:26
-enum-known-c-4 : tie.Need-enum-known-c-4
-enum-known-c-4 c = search needs
-
--- src/lib.rt:412:42
+-- src/lib.rt:428:42
 kind-line-requires : tie.Need-kind-line-requires
-kind-line-requires c κs = field-kinded _ _ (c .before .before .before .before .check .ensures) _ _ (c .before .before .c4 .given .1)
+kind-line-requires c κs = field-kinded _ _ (c .before .before .before .before .check .ensures) _ _ (c .before .before .c2 .given .1)
 
--- src/lib.rt:413:39
+-- src/lib.rt:429:39
 enum-told-2 : tie.Need-enum-told-2
 enum-told-2 c = search needs
 
--- src/lib.rt:413:31
-refused-requires-5 : tie.Need-refused-requires-5
-refused-requires-5 c κs = search needs
+-- src/lib.rt:429:31
+refused-requires-3 : tie.Need-refused-requires-3
+refused-requires-3 c κs = search needs
 
--- src/lib.rt:398:1
+-- src/lib.rt:415:1
 returns : tie.Need-returns
-returns c = no-kind _ _ _ ((function-declared _ _ (c .before .before .before .before .check .ensures) _ _ _ (c .before .before .c .given .1)) .lone) (c .refused .ensures)
+returns c = no-kind _ _ _ ((is-declared _ _ (c .before .before .before .before .check .ensures) _ _ _ _ (c .before .before .c .given .1)) .lone) (c .refused .ensures)
 
--- src/lib.rt:398:1
+-- src/lib.rt:415:1
 returns-2 : tie.Need-returns-2
 returns-2 c = constructor-kind _ _ (c .before .before .before .check .ensures) (c .before .enum-told .given .1) _ _ (c .refused2 .ensures)
 
--- src/lib.rt:398:1
-returns-3 : tie.Need-returns-3
-returns-3 c = no-kind _ _ _ ((event-declared _ _ (c .before .before .before .before .check .ensures) _ _ (c .before .before .c2 .given .1)) .lone) (c .refused3 .ensures)
-
--- src/lib.rt:398:1
-returns-4 : tie.Need-returns-4
-returns-4 c = no-kind _ _ _ ((error-declared _ _ (c .before .before .before .before .check .ensures) _ _ (c .before .before .c3 .given .1)) .lone) (c .refused4 .ensures)
-
--- src/lib.rt:398:1
+-- src/lib.rt:415:1
 same-length : tie.Need-same-length
 same-length c = search needs
 
--- src/lib.rt:398:1
-returns-5 : tie.Need-returns-5
-returns-5 c = field-kind _ _ (c .before .before .before .before .before .before .before .check .ensures) _ _ (c .before .before .before .before .before .c4 .given .1) _ _ _ (c .before .before .kind-line .ensures)
+-- src/lib.rt:415:1
+returns-3 : tie.Need-returns-3
+returns-3 c = field-kind _ _ (c .before .before .before .before .before .before .before .check .ensures) _ _ (c .before .before .before .before .before .c2 .given .1) _ _ _ (c .before .before .kind-line .ensures)
 
--- src/lib.rt:398:1
-returns-6 : tie.Need-returns-6
-returns-6 c = no-kind _ _ _ (ill-lone _ _ (c .before .before .before .check .ensures) (c .before .enum-told2 .given .1)) (c .refused5 .ensures)
+-- src/lib.rt:415:1
+returns-4 : tie.Need-returns-4
+returns-4 c = no-kind _ _ _ (ill-lone _ _ (c .before .before .before .check .ensures) (c .before .enum-told2 .given .1)) (c .refused3 .ensures)
 
 pub kind-text-spec : {M : Type 1} → statement M
 kind-text-spec =
@@ -98,17 +74,11 @@ kind-text-spec =
     enum-told
     refused-requires-2
     enum-known-c-2
-    refused-requires-3
-    enum-known-c-3
-    refused-requires-4
-    enum-known-c-4
     kind-line-requires
     enum-told-2
-    refused-requires-5
+    refused-requires-3
     returns
     returns-2
-    returns-3
-    returns-4
     same-length
-    returns-5
-    returns-6)
+    returns-3
+    returns-4)

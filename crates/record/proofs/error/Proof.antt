@@ -19,6 +19,10 @@ list-requires c κs = search needs
 returns-2 : tie.Need-returns-2
 returns-2 c = search (needs, tops)
 
+-- src/lib.rt
+missing-requires : tie.Need-missing-requires
+missing-requires c κs = search needs
+
 -- src/lib.rt:503:9
 returns-3 : tie.Need-returns-3
 returns-3 c = search (needs, tops)
@@ -29,4 +33,4 @@ returns-4 c = search (needs, tops)
 
 pub error-spec : {M : Type 1} → statement M
 error-spec =
-    tie.close (tie.spec name-end-requires returns list-requires returns-2 returns-3 returns-4)
+    tie.close (tie.spec name-end-requires returns list-requires returns-2 missing-requires returns-3 returns-4)

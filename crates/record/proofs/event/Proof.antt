@@ -31,6 +31,10 @@ list-requires c κs = search needs
 returns-4 : tie.Need-returns-4
 returns-4 c = search (needs, tops)
 
+-- src/lib.rt
+missing-requires : tie.Need-missing-requires
+missing-requires c κs = search needs
+
 -- src/lib.rt:481:9
 returns-5 : tie.Need-returns-5
 returns-5 c = search (needs, tops)
@@ -50,5 +54,6 @@ event-spec =
     returns-3
     list-requires
     returns-4
+    missing-requires
     returns-5
     returns-6)

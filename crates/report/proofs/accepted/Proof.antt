@@ -1,5 +1,5 @@
 use native.Mathlib.Omega.{arith}
-use Rattle.report.proofs.Whole.{function-line, event-line, error-line, function-put, event-put, error-put, constructor-put, field-put, ill-formed-put}
+use Rattle.report.proofs.Whole.{declared-line, declared-put, constructor-put, field-put, ill-formed-put}
 use borrow.Author.Needs.{needs}
 use Rattle.report.proofs.accepted.Statement.{statement}
 use Rattle.report.proofs.accepted.Tie as tie
@@ -9,89 +9,57 @@ use Rattle.record.proofs.check.Reads as check-reads
 use Rattle.report.proofs.dashed.Reads as dashed-reads
 use Rattle.report.proofs.lined.Reads as lined-reads
 
--- src/lib.rt:108:9
+-- src/lib.rt:98:9
 check-requires : tie.Need-check-requires
 check-requires c κs = search needs
 
--- src/lib.rt:111:13
+-- src/lib.rt:101:13
 enum-known-c : tie.Need-enum-known-c
 enum-known-c c = search needs
 
--- src/lib.rt:114:14
+-- src/lib.rt:105:14
 lined-requires : tie.Need-lined-requires
-lined-requires c κs = (function-line _ _ (c .before .before .before .before .check .ensures) _ _ _ (c .before .before .c .given .1) .writes-it, omega (arith, function-line _ _ (c .before .before .before .before .check .ensures) _ _ _ (c .before .before .c .given .1) .small, c .before .before .before .before .before .before .before .pre .0, c .before .before .before .before .before .before .before .pre .1))
+lined-requires c κs = (declared-line _ _ (c .before .before .before .before .check .ensures) _ _ _ _ (c .before .before .c .given .1) .writes-it, omega (arith, declared-line _ _ (c .before .before .before .before .check .ensures) _ _ _ _ (c .before .before .c .given .1) .small, (c .before .before .before .before .before .before .before .pre .0), (c .before .before .before .before .before .before .before .pre .1)))
 
--- src/lib.rt:115:48
+-- src/lib.rt:106:48
 enum-told : tie.Need-enum-told
 enum-told c = search needs
 
--- src/lib.rt:115:33
+-- src/lib.rt:106:33
 dashed-requires : tie.Need-dashed-requires
 dashed-requires c κs = search needs
 
--- src/lib.rt:116:26
+-- src/lib.rt:107:26
 enum-known-c-2 : tie.Need-enum-known-c-2
 enum-known-c-2 c = search needs
 
--- src/lib.rt:116:44
-lined-requires-2 : tie.Need-lined-requires-2
-lined-requires-2 c κs = (event-line _ _ (c .before .before .before .before .check .ensures) _ _ (c .before .before .c2 .given .1) .writes-it, omega (arith, event-line _ _ (c .before .before .before .before .check .ensures) _ _ (c .before .before .c2 .given .1) .small, c .before .before .before .before .before .before .before .pre .0, c .before .before .before .before .before .before .before .pre .1))
-
--- src/lib.rt:117:26
-enum-known-c-3 : tie.Need-enum-known-c-3
-enum-known-c-3 c = search needs
-
--- src/lib.rt:117:44
-lined-requires-3 : tie.Need-lined-requires-3
-lined-requires-3 c κs = (error-line _ _ (c .before .before .before .before .check .ensures) _ _ (c .before .before .c3 .given .1) .writes-it, omega (arith, error-line _ _ (c .before .before .before .before .check .ensures) _ _ (c .before .before .c3 .given .1) .small, c .before .before .before .before .before .before .before .pre .0, c .before .before .before .before .before .before .before .pre .1))
-
--- src/lib.rt:118:26
-enum-known-c-4 : tie.Need-enum-known-c-4
-enum-known-c-4 c = search needs
-
--- src/lib.rt:119:31
+-- src/lib.rt:108:31
 enum-told-2 : tie.Need-enum-told-2
 enum-told-2 c = search needs
 
--- src/lib.rt:104:1
+-- src/lib.rt:94:1
 same-length : tie.Need-same-length
 same-length c = search needs
 
--- src/lib.rt:104:1
+-- src/lib.rt:94:1
 returns : tie.Need-returns
-returns c = function-put _ _ (c .before .before .before .before .before .before .before .check .ensures) _ _ _ _ _ _ (c .before .before .before .before .before .c .given .1) (c .before .before .lined .ensures)
+returns c = declared-put _ _ (c .before .before .before .before .before .before .before .check .ensures) _ _ _ _ _ _ _ (c .before .before .before .before .before .c .given .1) (c .before .before .lined .ensures)
 
--- src/lib.rt:104:1
+-- src/lib.rt:94:1
 same-length-2 : tie.Need-same-length-2
 same-length-2 c = search needs
 
--- src/lib.rt:104:1
+-- src/lib.rt:94:1
 returns-2 : tie.Need-returns-2
 returns-2 c = constructor-put _ _ (c .before .before .before .before .before .before .check .ensures) _ _ _ (c .before .before .before .before .enum-told .given .1) (c .before .before .dashed .ensures)
 
--- src/lib.rt:104:1
-same-length-3 : tie.Need-same-length-3
-same-length-3 c = search needs
-
--- src/lib.rt:104:1
+-- src/lib.rt:94:1
 returns-3 : tie.Need-returns-3
-returns-3 c = event-put _ _ (c .before .before .before .before .before .before .before .check .ensures) _ _ _ _ _ (c .before .before .before .before .before .c2 .given .1) (c .before .before .lined2 .ensures)
+returns-3 c = field-put _ _ (c .before .before .before .check .ensures) _ _ _ (c .before .c2 .given .1)
 
--- src/lib.rt:104:1
-same-length-4 : tie.Need-same-length-4
-same-length-4 c = search needs
-
--- src/lib.rt:104:1
+-- src/lib.rt:94:1
 returns-4 : tie.Need-returns-4
-returns-4 c = error-put _ _ (c .before .before .before .before .before .before .before .check .ensures) _ _ _ _ _ (c .before .before .before .before .before .c3 .given .1) (c .before .before .lined3 .ensures)
-
--- src/lib.rt:104:1
-returns-5 : tie.Need-returns-5
-returns-5 c = field-put _ _ (c .before .before .before .check .ensures) _ _ _ (c .before .c4 .given .1)
-
--- src/lib.rt:104:1
-returns-6 : tie.Need-returns-6
-returns-6 c = ill-formed-put _ _ (c .before .before .check .ensures) _ (c .enum-told2 .given .1)
+returns-4 c = ill-formed-put _ _ (c .before .before .check .ensures) _ (c .enum-told2 .given .1)
 
 pub accepted-spec : {M : Type 1} → statement M
 accepted-spec =
@@ -103,18 +71,10 @@ accepted-spec =
     enum-told
     dashed-requires
     enum-known-c-2
-    lined-requires-2
-    enum-known-c-3
-    lined-requires-3
-    enum-known-c-4
     enum-told-2
     same-length
     returns
     same-length-2
     returns-2
-    same-length-3
     returns-3
-    same-length-4
-    returns-4
-    returns-5
-    returns-6)
+    returns-4)
