@@ -14,7 +14,7 @@ use std::hint::black_box;
 use std::time::Instant;
 
 const ROUNDS: usize = 41;
-const SAMPLE_NS: f64 = 2_000_000.0;
+const SAMPLE_NS: f64 = 20_000_000.0;
 const MOST_RECORD: usize = 40_960;
 
 /// The nanoseconds of one call, round by round.

@@ -143,6 +143,9 @@ module _ (k : ℕ) (body : List ℕ) (o : ℕ) (b : List ℕ) (q : Room (suffixF
       let f : decodeSuffix k body ≡ wholly 8 body (λ n. some (sized n)) = rw e in
       test-there (eqb (length body) 8) _ (sym f ∙ p) (λ t _. eqb-true _ _ t)
 
+  pub sized-value : (v : ℕ) → k ≡ 10 → v ≡ leValue (take 8 (drop 0 body)) → v ≡ leValue body
+  sized-value v e f = f ∙ ap leValue (take-all 8 body (omega (arith, suffix-long e)))
+
   sized-text : k ≡ 10 → suffixFrom k body ≡ some (91 ∷ (decimal (leValue body) ++ (93 ∷ [])))
   unfolding suffixFrom decodeSuffix suffixText
   sized-text e =

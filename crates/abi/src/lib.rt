@@ -202,7 +202,7 @@ fn write_suffix(k: usize, body: &[u8], out: &mut [u8], o: usize) -> usize
     match k {
         10 => {
             out[o] = 91;
-            let p = write_decimal(out, o + 1, record::get8(body));
+            let p = write_decimal(out, o + 1, layout::get8(body, 0));
             out[p] = 93;
             p + 1
         }

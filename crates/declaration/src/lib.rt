@@ -446,15 +446,25 @@ fn long(text: &[u8], k: Keyword, record: &mut [u8]) -> Answer
     large(text, k, record)
 }
 
+// An answer made anew, so that it is handed on in registers.
+fn anew(answer: Answer) -> Answer
+    ensures { λ r. ⌜ r ≡ answer ⌝ }
+{
+    match answer {
+        Answer::Accepted { length } => Answer::Accepted { length },
+        Answer::Refused { refusal, position } => refused(refusal, position),
+    }
+}
+
 fn by_size(text: &[u8], k: Keyword, record: &mut [u8]) -> Answer
     requires { ⌜ length (now text) ≤ 4096 ⌝ }
     ensures says { λ r. ⌜ said r ≡ outcome (length (now («record» .entry))) (execOutput k (now (text .entry))) ⌝ }
     ensures left { λ _. ⌜ now («record» .exit) ≡ after (now («record» .entry)) (execOutput k (now (text .entry))) ⌝ }
 {
     if text.len() <= 256 {
-        return short(text, k, record);
+        return anew(short(text, k, record));
     }
-    long(text, k, record)
+    anew(long(text, k, record))
 }
 
 // Whether a text is read at all.
@@ -491,9 +501,9 @@ fn parse(text: &[u8], k: Keyword, record: &mut [u8]) -> Answer
     match a {
         Admitted::Whole => {
             if text.len() <= 256 {
-                return short(text, k, record);
+                return anew(short(text, k, record));
             }
-            long(text, k, record)
+            anew(long(text, k, record))
         }
         Admitted::Not { refusal, at } => refused(refusal, at),
     }

@@ -13,7 +13,7 @@ use Rattle.layout.specs.Buffer.{put}
 use Rattle.layout.proofs.Puts.{Copied, copy-start, copy-end}
 
 -- bytes in two parts
-le-append : (x y : List ℕ) → leValue (x ++ y) ≡ leValue x + 256 ^ length x * leValue y
+pub le-append : (x y : List ℕ) → leValue (x ++ y) ≡ leValue x + 256 ^ length x * leValue y
 unfolding leValue
 le-append [] y = omega arith
 le-append (c ∷ x) y = omega (arith, le-append x y, pow-succ' 256 (length x), ap (λ n. n * leValue y) (pow-succ' 256 (length x)), mul-assoc 256 (256 ^ length x) (leValue y))

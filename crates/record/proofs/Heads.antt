@@ -5,12 +5,12 @@ use mathlib.Core.Bool.{Bool, true, false, _&&_, and-eq-true-iff}
 use mathlib.Core.List.{List, [], _∷_, _++_}
 use Prim.Native.Nat.{ℕ, _+_, _*_, _-_, _^_, _≤_, _<_}
 use native.Mathlib.Omega.{arith}
-use native.Mathlib.Nat.{pow-succ', mul-assoc}
 use lib.Dec.{leb}
 use lib.ListN.{length, take, drop, length-drop, take-append-drop}
 use lib.Seq.{take-all, length-take-le}
 use borrow.Author.Tests.{leb-true, le-leb}
 use Rattle.model.specs.Layout.{leValue, noPiece, pieceOf}
+use Rattle.layout.proofs.Copies.{le-append}
 use Rattle.record.specs.Parts.{Head}
 
 -- no record, where its length does not lie between 6 and what there is
@@ -37,17 +37,9 @@ head-is b n e h = record {
 }
 
 -- bytes in two halves
-le-append : (x y : List ℕ) → leValue (x ++ y) ≡ leValue x + 256 ^ length x * leValue y
-unfolding leValue
-le-append [] y = omega arith
-le-append (c ∷ x) y = omega (arith, le-append x y, pow-succ' 256 (length x), ap (λ n. n * leValue y) (pow-succ' 256 (length x)), mul-assoc 256 (256 ^ length x) (leValue y))
-
 pub eight-sum : (t : List ℕ) (a b x y : ℕ) → a + 4 ≤ length t → x ≡ leValue (take 4 (drop a t)) → y ≡ leValue (take 4 (drop b t)) → x + 4294967296 * y ≡ leValue (take 4 (drop a t) ++ take 4 (drop b t))
 eight-sum t a b x y h e f =
     let four : length (take 4 (drop a t)) ≡ 4 = length-take-le 4 (drop a t) (rw length-drop (omega arith)) in
     omega (arith, rw four at (le-append (take 4 (drop a t)) (take 4 (drop b t))))
 
-pub get8-is : (b : List ℕ) (r : ℕ) → length b ≡ 8 → r ≡ leValue (take 4 (drop 0 b) ++ take 4 (drop 4 b)) → r ≡ leValue b
-get8-is b r h e = rw (take-all 4 (drop 4 b) (rw length-drop (omega arith)), take-append-drop 4 b) at e
-
-pub ruleset heads = (head-short, head-long, head-is, eight-sum, get8-is)
+pub ruleset heads = (head-short, head-long, head-is, eight-sum)

@@ -232,9 +232,10 @@ unfolding measured
 measured-none t e = rw e
 
 module _ (k : ℕ) (body : List ℕ) where
-  pub suffix-sized : (v n : ℕ) → k ≡ 10 → length body ≡ 8 → v ≡ leValue body → n ≡ length (decimal v) → 2 + n ≡ measured (suffixFrom k body)
+  pub suffix-sized : (v n : ℕ) → k ≡ 10 → length body ≡ 8 → v ≡ leValue (take 8 (drop 0 body)) → n ≡ length (decimal v) → 2 + n ≡ measured (suffixFrom k body)
   unfolding suffixFrom decodeSuffix suffixText measured
-  suffix-sized v n e h f g =
+  suffix-sized v n e h f₁ g =
+      let f : v ≡ leValue body = f₁ ∙ ap leValue (take-all 8 body (omega arith)) in
       let size : 2 + n ≡ length (91 ∷ (decimal v ++ (93 ∷ []))) = omega (arith, length-append (decimal v) (93 ∷ [])) in
       rw e (rw f at size ∙ ap (λ o. measured (onOption suffixText o)) (sym (wholly-is 8 body (λ m. some (sized m)) h)))
 

@@ -40,14 +40,6 @@ fn eight(t: &[u8], a: usize, b: usize) -> u64
     layout::get4(t, a) as u64 + 4294967296 * (layout::get4(t, b) as u64)
 }
 
-// The number of eight bytes.
-pub fn get8(b: &[u8]) -> u64
-    requires { ⌜ length (now b) ≡ 8 ⌝ }
-    ensures { λ r. ⌜ r ≡ leValue (now (b .entry)) ⌝ }
-{
-    eight(b, 0, 4)
-}
-
 // How many digits a number has.
 pub fn decimal_length(v: u64) -> usize
     ensures { λ r. ⌜ (r ≡ length (decimal v)) × (r ≤ 20) ⌝ }
@@ -175,7 +167,7 @@ fn suffix(k: usize, body: &[u8]) -> usize
     match k {
         10 => {
             if body.len() == 8 {
-                return 2 + decimal_length(get8(body));
+                return 2 + decimal_length(layout::get8(body, 0));
             }
             0
         }
@@ -207,17 +199,11 @@ fn suffixes(b: &[u8], text: usize) -> usize
     n
 }
 
-// Whether eight bytes are all letters, a-z or A-Z: they are below 128, and with the bit of 32 set they go from 97 to 122.
+// Whether eight bytes are all letters.
 fn letters(v: u64) -> bool
     ensures { λ r. ⌜ (r ≡ true → all isLetter (littleEndian 8 v) ≡ true) ⌝ }
 {
-    if v & 0x8080808080808080 == 0 {
-        let u = v | 0x2020202020202020;
-        if (u + 0x0505050505050505) & 0x8080808080808080 == 0 {
-            return (u + 0x1F1F1F1F1F1F1F1F) & 0x8080808080808080 == 0x8080808080808080;
-        }
-    }
-    false
+    text::others(v) == 0
 }
 
 // Whether a name is of letters alone, eight bytes at a time, the last eight once more: the quick way for most names of four bytes or more.

@@ -1,4 +1,5 @@
 pub mod Classes
+pub mod Eights
 pub mod Compare
 pub mod Characters
 pub mod Skipping

@@ -1,17 +1,17 @@
 -- What the functions of this crate answer, by the definitions.
 -- Assumes nothing.
 use mathlib.Core.Path.{_≡_}
-use mathlib.Core.Bool.{Bool, true, false}
-use mathlib.Core.List.{List}
+use mathlib.Core.Bool.{Bool, true, false, _||_}
+use mathlib.Core.List.{List, [], _∷_}
 use mathlib.Core.Option.{Option, none, some}
 use Prim.Native.Nat.{ℕ, zero, suc, _+_, _*_, _-_, _≤_, _<_}
 use lib.Dec.{ltb}
-use lib.ListN.{length}
-use Rattle.kinds.specs.Bytes.{isDigit}
+use lib.ListN.{length, drop}
+use Rattle.kinds.specs.Bytes.{between, isDigit, isWordByte}
 use Rattle.kinds.specs.Decimal.{atMost}
 use Rattle.text.specs.declared.Maybe.{Maybe}
 use Rattle.text.specs.declared.Maybe.the-variants.{Value, Absent}
-use Rattle.model.specs.Text.{Char, char, noChar, isTail, charOf, skip}
+use Rattle.model.specs.Text.{span, one, Char, char, noChar, isTail, charOf, skip, wordLength}
 
 -- the six bits of a tail byte, and 64 if it is none
 unfoldable pub tailOf : ℕ → ℕ
@@ -52,3 +52,17 @@ pub record DigitIs (c d : ℕ) : Type 0 where
   pub same : isDigit c ≡ ltb d 10
   pub value : d < 10 → d ≡ c - 48
   pub small : d ≤ 10
+
+-- 128 for a byte that is none of a-z, A-Z, and 0 for one of them
+unfoldable pub flag : ℕ → ℕ
+flag c = elim (between 97 122 c || between 65 90 c) [ true ↦ 0 | false ↦ 128 ]
+
+-- the same for bytes, as the number that they make: the first byte is the lowest
+unfoldable pub flags : List ℕ → ℕ
+flags [] = 0
+flags (c ∷ t) = flag c + 256 * flags t
+
+-- the first c bytes are of the word that t begins with
+pub record Begun (t : List ℕ) (c : ℕ) : Type 0 where
+  pub inside : c ≤ length t
+  pub rest : c + span (one isWordByte) (drop c t) ≡ wordLength t

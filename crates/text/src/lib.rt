@@ -2,14 +2,16 @@
 ghost use mathlib.Core.Path.{_≡_};
 ghost use mathlib.Core.Option.{some};
 ghost use Prim.Native.Nat.{_+_, _*_, _≤_, _<_};
+ghost use mathlib.Core.Bool.{true};
 ghost use lib.Dec.{eqb};
-ghost use lib.ListN.{length, drop};
+ghost use lib.ListN.{length, take, drop};
 ghost use mathlib.Core.Bool.{_||_};
 ghost use Rattle.kinds.specs.Bytes.{all, between, isAscii, isDigit, isLetter, isWordByte, same};
 ghost use Rattle.kinds.specs.Decimal.{plain, number};
+ghost use Rattle.model.specs.Layout.{littleEndian};
 ghost use Rattle.model.specs.Text.{span, one, tails, scalar, validLength, isBlank, blank, skip, peek, wordLength, runByte, runLength};
 ghost use Rattle.model.specs.KindText.{starts};
-ghost use Rattle.text.specs.Found.{tailOf, codeOf, charFrom, CharIs, Skipped, toOption, Pushed, DigitIs};
+ghost use Rattle.text.specs.Found.{flags, Begun, tailOf, codeOf, charFrom, CharIs, Skipped, toOption, Pushed, DigitIs};
 
 // 0-9
 pub fn is_digit(c: u8) -> bool
@@ -68,29 +70,70 @@ pub fn digits(t: &[u8]) -> usize
     i
 }
 
-// How long the word is that a part begins with.
-pub fn word(t: &[u8]) -> usize
+// The bit of 128 of each of eight bytes that is none of a-z, A-Z: it has that bit itself or, without it and with the bit of 32, is below 97 or
+// above 122.
+pub fn others(v: u64) -> u64
+    ensures { λ r. ⌜ r ≡ flags (littleEndian 8 v) ⌝ }
+{
+    let u = v & 0x7F7F7F7F7F7F7F7F | 0x2020202020202020;
+    (v | (u + 0x0505050505050505) | (0xE0E0E0E0E0E0E0E0 - u)) & 0x8080808080808080
+}
+
+// How many letters eight bytes begin with. Others of a word may follow.
+fn lead(v: u64) -> usize
+    ensures { λ r. ⌜ (r ≤ 8) × (all isLetter (take r (littleEndian 8 v)) ≡ true) ⌝ }
+{
+    (u64::trailing_zeros(others(v)) / 8) as usize
+}
+
+// How long the word is that a part begins with, of which c bytes are gone over.
+fn word_from(t: &[u8], c: usize) -> usize
+    requires { ⌜ Begun (now t) c ⌝ }
+    ensures { λ r. ⌜ (r ≡ wordLength (now (t .entry))) × (r ≤ length (now (t .entry))) ⌝ }
+{
+    let mut i = c;
+    while i < t.len() {
+        if is_word_byte(t[i]) {
+            i += 1;
+        } else {
+            return i;
+        }
+    }
+    i
+}
+
+fn word_slowly(t: &[u8]) -> usize
     ensures { λ r. ⌜ (r ≡ wordLength (now (t .entry))) × (r ≤ length (now (t .entry))) ⌝ }
 {
     if t.len() == 0 {
         return 0;
     }
     if is_letter(t[0]) {
-        let mut i = 1;
-        while i < t.len() {
-            if is_alphabetic(t[i]) {
-                i += 1;
-            } else {
-                if is_word_byte(t[i]) {
-                    i += 1;
-                } else {
-                    return i;
-                }
-            }
-        }
-        return i;
+        return word_from(t, 1);
     }
     0
+}
+
+// How long the word is that a part begins with: the letters at its front are taken eight at a time.
+pub fn word(t: &[u8]) -> usize
+    ensures { λ r. ⌜ (r ≡ wordLength (now (t .entry))) × (r ≤ length (now (t .entry))) ⌝ }
+{
+    if 8 <= t.len() {
+        let c = lead(layout::get8(t, 0));
+        if 0 < c {
+            if c < 8 {
+                if is_word_byte(t[c]) {
+                    return word_from(t, c);
+                }
+                return c;
+            }
+            if 16 <= t.len() {
+                return word_from(t, 8 + lead(layout::get8(t, 8)));
+            }
+            return word_from(t, 8);
+        }
+    }
+    word_slowly(t)
 }
 
 // Whether two byte strings are equal: decided at unequal lengths or at the first unequal byte.

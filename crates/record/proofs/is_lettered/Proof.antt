@@ -1,5 +1,6 @@
 use native.Mathlib.Omega.{arith}
-use Rattle.record.proofs.Eights.{known-bytes, lettered-next, lettered-short, lettered-end}
+use Rattle.text.proofs.Eights.{known-bytes}
+use Rattle.record.proofs.Eights.{lettered-next, lettered-short, lettered-end}
 use borrow.Author.Needs.{needs}
 use Rattle.record.proofs.Eights.{eights}
 use mathlib.Core.Path.{_≡_}

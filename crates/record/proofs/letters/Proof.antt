@@ -1,29 +1,17 @@
-use native.Mathlib.Omega.{arith}
-use Rattle.record.proofs.Eights.{letters-room}
+use mathlib.Core.Path.{sym, _∙_}
+use borrow.Author.Tests.{eqb-true}
+use Rattle.text.proofs.Eights.{letters-all}
 use borrow.Author.Needs.{needs}
-use Rattle.record.proofs.Eights.{eights}
 use Rattle.record.proofs.letters.Statement.{statement}
 use Rattle.record.proofs.letters.Tie as tie
 
--- src/lib.rt:188:13
-add-if2 : tie.Need-add-if2
-add-if2 c = record { fits = omega (arith, letters-room _ (c .before .fits .v .fits) (c .if1 .taken)) }
+-- src/lib.rt:206:5
+others-requires : tie.Need-others-requires
+others-requires c κs = search needs
 
--- src/lib.rt:189:21
-add-result : tie.Need-add-result
-add-result c = record { fits = omega (arith, letters-room _ (c .before .before .fits .v .fits) (c .before .if1 .taken)) }
-
--- src/lib.rt:189:13
+-- src/lib.rt:203:1
 returns : tie.Need-returns
-returns c = search (needs, eights)
-
--- src/lib.rt:183:1
-returns-2 : tie.Need-returns-2
-returns-2 c = search (needs, eights)
-
--- src/lib.rt:183:1
-returns-3 : tie.Need-returns-3
-returns-3 c = search (needs, eights)
+returns c = λ q. letters-all _ (sym (c .others .ensures) ∙ eqb-true _ _ q)
 
 pub letters-spec : {M : Type 1} → statement M
-letters-spec = tie.close (tie.spec add-if2 add-result returns returns-2 returns-3)
+letters-spec = tie.close (tie.spec others-requires returns)
