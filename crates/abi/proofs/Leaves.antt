@@ -16,11 +16,10 @@ use Rattle.kinds.specs.Kind.{bits, octets, isBitWidth, isByteLength, Elementary
 use Rattle.kinds.proofs.Logic.{left, right}
 use Rattle.model.specs.Layout.{leValue}
 use Rattle.model.specs.Record.{onOption, when, ended, wholly, elementaryCases, suffixCases, decodeElementary, decodeSuffix}
-use Rattle.model.proofs.Decoding.{when-some, ended-some}
+use Rattle.model.proofs.Decoding.{when-some, ended-some, select-other}
 use Rattle.layout.specs.Buffer.{put}
 use Rattle.layout.proofs.Puts.{put-then, length-put}
 use Rattle.record.specs.Texts.{elementaryFrom, suffixFrom}
-use Rattle.record.proofs.Lengths.{select-other}
 use Rattle.record.proofs.There.{test-there}
 use Rattle.abi.specs.Writes.{Room, Wrote}
 use Rattle.abi.proofs.Stores.{store-1, store-2}

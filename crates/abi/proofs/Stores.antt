@@ -1,10 +1,10 @@
--- Bytes stored one behind the other: words, and numbers in decimal.
+-- Bytes stored one behind the other, and numbers in decimal.
 -- Assumes nothing.
 use mathlib.Core.Path.{_≡_, refl, sym, _∙_, ap}
 use mathlib.Core.List.{List, [], _∷_, _++_, append-assoc, append-nil}
 use Prim.Native.Nat.{ℕ, zero, suc, _+_, _*_, _-_, _/_, _%_, _≤_, _<_}
 use native.Mathlib.Omega.{arith}
-use native.Mathlib.Numerals.{add-one, add-two, add-three, add-four, add-five, add-six, add-seven}
+use native.Mathlib.Numerals.{add-one, add-two}
 use native.Mathlib.Nat.{add-zero}
 use lib.Dec.{lit<, lit≤}
 use lib.ListN.{length, take, drop, set, getD, length-append, length-set, take-append-drop}
@@ -28,26 +28,6 @@ module _ (b : List ℕ) (o c₀ : ℕ) where
     module _ (c₂ : ℕ) where
       pub store-3 : o + 3 ≤ length b → set (set (set b o c₀) (o + 1) c₁) (o + 2) c₂ ≡ put o (c₀ ∷ c₁ ∷ c₂ ∷ []) b
       store-3 h = rw (add-one, add-two) (stores (c₀ ∷ c₁ ∷ c₂ ∷ []) b o h)
-
-      module _ (c₃ : ℕ) where
-        pub store-4 : o + 4 ≤ length b → set (set (set (set b o c₀) (o + 1) c₁) (o + 2) c₂) (o + 3) c₃ ≡ put o (c₀ ∷ c₁ ∷ c₂ ∷ c₃ ∷ []) b
-        store-4 h = rw (add-one, add-two, add-three) (stores (c₀ ∷ c₁ ∷ c₂ ∷ c₃ ∷ []) b o h)
-
-        module _ (c₄ : ℕ) where
-          pub store-5 : o + 5 ≤ length b → set (set (set (set (set b o c₀) (o + 1) c₁) (o + 2) c₂) (o + 3) c₃) (o + 4) c₄ ≡ put o (c₀ ∷ c₁ ∷ c₂ ∷ c₃ ∷ c₄ ∷ []) b
-          store-5 h = rw (add-one, add-two, add-three, add-four) (stores (c₀ ∷ c₁ ∷ c₂ ∷ c₃ ∷ c₄ ∷ []) b o h)
-
-          module _ (c₅ : ℕ) where
-            pub store-6 : o + 6 ≤ length b → set (set (set (set (set (set b o c₀) (o + 1) c₁) (o + 2) c₂) (o + 3) c₃) (o + 4) c₄) (o + 5) c₅ ≡ put o (c₀ ∷ c₁ ∷ c₂ ∷ c₃ ∷ c₄ ∷ c₅ ∷ []) b
-            store-6 h = rw (add-one, add-two, add-three, add-four, add-five) (stores (c₀ ∷ c₁ ∷ c₂ ∷ c₃ ∷ c₄ ∷ c₅ ∷ []) b o h)
-
-            module _ (c₆ : ℕ) where
-              pub store-7 : o + 7 ≤ length b → set (set (set (set (set (set (set b o c₀) (o + 1) c₁) (o + 2) c₂) (o + 3) c₃) (o + 4) c₄) (o + 5) c₅) (o + 6) c₆ ≡ put o (c₀ ∷ c₁ ∷ c₂ ∷ c₃ ∷ c₄ ∷ c₅ ∷ c₆ ∷ []) b
-              store-7 h = rw (add-one, add-two, add-three, add-four, add-five, add-six) (stores (c₀ ∷ c₁ ∷ c₂ ∷ c₃ ∷ c₄ ∷ c₅ ∷ c₆ ∷ []) b o h)
-
-              pub store-8 : (c₇ : ℕ) → o + 8 ≤ length b
-                  → set (set (set (set (set (set (set (set b o c₀) (o + 1) c₁) (o + 2) c₂) (o + 3) c₃) (o + 4) c₄) (o + 5) c₅) (o + 6) c₆) (o + 7) c₇ ≡ put o (c₀ ∷ c₁ ∷ c₂ ∷ c₃ ∷ c₄ ∷ c₅ ∷ c₆ ∷ c₇ ∷ []) b
-              store-8 c₇ h = rw (add-one, add-two, add-three, add-four, add-five, add-six, add-seven) (stores (c₀ ∷ c₁ ∷ c₂ ∷ c₃ ∷ c₄ ∷ c₅ ∷ c₆ ∷ c₇ ∷ []) b o h)
 
 -- numbers by their digits
 decimal-two : (v : ℕ) → 10 ≤ v → v < 100 → decimal v ≡ (48 + v / 10) ∷ (48 + v % 10) ∷ []
@@ -136,4 +116,4 @@ module _ (b₀ : List ℕ) (o v end : ℕ) (b : List ℕ) (i rest : ℕ) (d : Di
       let whole : decimal v ≡ (48 + rest) ∷ d .tail = d .split ∙ rw one in
       ap (λ x. set x o (48 + rest)) (d .same ∙ ap (λ j. put j (d .tail) b₀) place) ∙ put-before b₀ (d .tail) o (48 + rest) (omega (arith, d .stop, d .room)) ∙ rw whole
 
-pub ruleset storing = (store-1, store-2, store-3, store-4, store-5, store-6, store-7, store-8, small-256, small-1, small-2, small-3, digits-start, digits-next, digits-end)
+pub ruleset storing = (store-1, store-2, store-3, small-256, small-1, small-2, small-3, digits-start, digits-next, digits-end)

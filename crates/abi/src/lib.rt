@@ -8,7 +8,6 @@ use record::Spot;
 ghost use mathlib.Core.Path.{_≡_};
 ghost use Prim.Native.Nat.{_+_, _≤_, _<_};
 ghost use lib.ListN.{length};
-ghost use Rattle.kinds.specs.Bytes.{ascii};
 ghost use Rattle.kinds.specs.Decimal.{decimal};
 ghost use Rattle.layout.specs.Buffer.{put};
 ghost use Rattle.record.specs.Texts.{elementaryFrom, suffixFrom, suffixesFrom};
@@ -17,92 +16,14 @@ ghost use Rattle.model.specs.Answer.{said, outcome, after, handed, refusalNumbe
 ghost use Rattle.abi.specs.Lines.{LineRoom, LineWrote, Lined, LineEnds, Signed, SignatureEnds, Kinded, KindEnds, NameFound};
 ghost use Rattle.model.specs.Calls.{canonicalOutput, signatureOutput, kindTextOutput, nameOutput};
 
-// Words, each written at o; the place behind it.
+// Each writer writes at o and answers the place behind.
 
-fn write_int(out: &mut [u8], o: usize) -> usize
-    requires { ⌜ o + 3 ≤ length (now out) ⌝ }
-    ensures { λ r. ⌜ (now (out .exit) ≡ put o (ascii "int") (now (out .entry))) × (r ≡ o + 3) ⌝ }
+fn write_word(out: &mut [u8], o: usize, word: &[u8]) -> usize
+    requires { ⌜ o + length (now word) ≤ length (now out) ⌝ }
+    ensures { λ r. ⌜ (now (out .exit) ≡ put o (now (word .entry)) (now (out .entry))) × (r ≡ o + length (now (word .entry))) ⌝ }
 {
-    out[o] = 105;
-    out[o + 1] = 110;
-    out[o + 2] = 116;
-    o + 3
-}
-
-fn write_uint(out: &mut [u8], o: usize) -> usize
-    requires { ⌜ o + 4 ≤ length (now out) ⌝ }
-    ensures { λ r. ⌜ (now (out .exit) ≡ put o (ascii "uint") (now (out .entry))) × (r ≡ o + 4) ⌝ }
-{
-    out[o] = 117;
-    out[o + 1] = 105;
-    out[o + 2] = 110;
-    out[o + 3] = 116;
-    o + 4
-}
-
-fn write_address(out: &mut [u8], o: usize) -> usize
-    requires { ⌜ o + 7 ≤ length (now out) ⌝ }
-    ensures { λ r. ⌜ (now (out .exit) ≡ put o (ascii "address") (now (out .entry))) × (r ≡ o + 7) ⌝ }
-{
-    out[o] = 97;
-    out[o + 1] = 100;
-    out[o + 2] = 100;
-    out[o + 3] = 114;
-    out[o + 4] = 101;
-    out[o + 5] = 115;
-    out[o + 6] = 115;
-    o + 7
-}
-
-fn write_bool(out: &mut [u8], o: usize) -> usize
-    requires { ⌜ o + 4 ≤ length (now out) ⌝ }
-    ensures { λ r. ⌜ (now (out .exit) ≡ put o (ascii "bool") (now (out .entry))) × (r ≡ o + 4) ⌝ }
-{
-    out[o] = 98;
-    out[o + 1] = 111;
-    out[o + 2] = 111;
-    out[o + 3] = 108;
-    o + 4
-}
-
-fn write_bytes(out: &mut [u8], o: usize) -> usize
-    requires { ⌜ o + 5 ≤ length (now out) ⌝ }
-    ensures { λ r. ⌜ (now (out .exit) ≡ put o (ascii "bytes") (now (out .entry))) × (r ≡ o + 5) ⌝ }
-{
-    out[o] = 98;
-    out[o + 1] = 121;
-    out[o + 2] = 116;
-    out[o + 3] = 101;
-    out[o + 4] = 115;
-    o + 5
-}
-
-fn write_function(out: &mut [u8], o: usize) -> usize
-    requires { ⌜ o + 8 ≤ length (now out) ⌝ }
-    ensures { λ r. ⌜ (now (out .exit) ≡ put o (ascii "function") (now (out .entry))) × (r ≡ o + 8) ⌝ }
-{
-    out[o] = 102;
-    out[o + 1] = 117;
-    out[o + 2] = 110;
-    out[o + 3] = 99;
-    out[o + 4] = 116;
-    out[o + 5] = 105;
-    out[o + 6] = 111;
-    out[o + 7] = 110;
-    o + 8
-}
-
-fn write_string(out: &mut [u8], o: usize) -> usize
-    requires { ⌜ o + 6 ≤ length (now out) ⌝ }
-    ensures { λ r. ⌜ (now (out .exit) ≡ put o (ascii "string") (now (out .entry))) × (r ≡ o + 6) ⌝ }
-{
-    out[o] = 115;
-    out[o + 1] = 116;
-    out[o + 2] = 114;
-    out[o + 3] = 105;
-    out[o + 4] = 110;
-    out[o + 5] = 103;
-    o + 6
+    layout::copy(out, o, word);
+    o + word.len()
 }
 
 // Numbers, in plain decimal.
@@ -161,15 +82,15 @@ fn write_numbered(k: usize, body: &[u8], out: &mut [u8], o: usize) -> usize
     let n = layout::get2(body, 0);
     match k {
         1 => {
-            let p = write_int(out, o);
+            let p = write_word(out, o, b"int");
             write_small(out, p, n)
         }
         2 => {
-            let p = write_uint(out, o);
+            let p = write_word(out, o, b"uint");
             write_small(out, p, n)
         }
         5 => {
-            let p = write_bytes(out, o);
+            let p = write_word(out, o, b"bytes");
             write_small(out, p, n)
         }
         _ => o,
@@ -185,11 +106,11 @@ fn write_elementary(k: usize, body: &[u8], out: &mut [u8], o: usize) -> usize
         return write_numbered(k, body, out, o);
     }
     match k {
-        3 => write_address(out, o),
-        4 => write_bool(out, o),
-        6 => write_function(out, o),
-        7 => write_bytes(out, o),
-        8 => write_string(out, o),
+        3 => write_word(out, o, b"address"),
+        4 => write_word(out, o, b"bool"),
+        6 => write_word(out, o, b"function"),
+        7 => write_word(out, o, b"bytes"),
+        8 => write_word(out, o, b"string"),
         _ => o,
     }
 }

@@ -5,7 +5,7 @@ use mathlib.Core.Bool.{Bool, true, false}
 use mathlib.Core.List.{List, [], _++_}
 use Prim.Native.Nat.{ℕ, _+_, _*_, _-_, _≤_, _<_}
 use native.Mathlib.Omega.{arith}
-use native.Mathlib.Nat.{zero-add}
+use native.Mathlib.Nat.{zero-add, sub-zero}
 use lib.Dec.{ltb}
 use lib.ListN.{length, take, drop, length-take}
 use borrow.Author.Tests.{lt-ltb, le-ltb}
@@ -99,8 +99,8 @@ module _ (b c : List ℕ) (r : Read) where
     pub finish-full : (x : Answer) → length b < l → x ≡ Refused NoRoom 0 → FinishEnds c r b b x
     finish-full x h f p = via-full (p .text) (p .keyword) b (p .before) c r (p .whole) n l e x h f
 
-    pub finish-done : (b₁ : List ℕ) → l ≤ length b → b₁ ≡ put 0 (take l c) b → FinishEnds c r b b₁ (Accepted l)
-    finish-done b₁ h f p = via-done (p .text) (p .keyword) b (p .before) c r (p .whole) n l e b₁ h f
+    pub finish-done : (b₁ : List ℕ) → l ≤ length b → b₁ ≡ put 0 (take (l - 0) (drop 0 c)) b → FinishEnds c r b b₁ (Accepted l)
+    finish-done b₁ h f p = via-done (p .text) (p .keyword) b (p .before) c r (p .whole) n l e b₁ h (rw sub-zero at f)
 
 -- a reading of a text, finished
 module _ (s : List ℕ) (k : Keyword) (c₀ c : List ℕ) (r : Read) (w : Whole c₀ c (onAns (encode 4) (exec (parserOf k) s)) r) where

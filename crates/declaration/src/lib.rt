@@ -360,7 +360,7 @@ fn finish(r: Read, scratch: &[u8], record: &mut [u8]) -> Answer
             if record.len() < len {
                 return refused(Refusal::NoRoom, 0);
             }
-            layout::copy(record, 0, &scratch[..len]);
+            layout::copy(record, 0, &scratch[0..len]);
             Answer::Accepted { length: len }
         }
         Read::Bad { refusal, at } => refused(refusal, at),

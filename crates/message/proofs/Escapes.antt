@@ -10,6 +10,7 @@ use lib.Seq.{take-suc, take-all}
 use borrow.Author.Tests.{lt-ltb, le-ltb, ne-eqb}
 use Rattle.kinds.specs.Bytes.{ascii}
 use Rattle.model.specs.Record.{Case, case, select}
+use Rattle.model.proofs.Decoding.{select-other}
 use Rattle.model.specs.Message.{hexDigit, hex, unicode, escapes, escape, escaped}
 use Rattle.message.specs.Lines.{Put}
 use Rattle.message.proofs.Writing.{put-none, put-as, put-then}
@@ -19,15 +20,6 @@ digit-low n h = rw (hexDigit, lt-ltb n 10 h)
 
 pub digit-high : (n : ℕ) → 10 ≤ n → 87 + n ≡ hexDigit n
 digit-high n h = rw (hexDigit, le-ltb n 10 h)
-
--- a number that is none of the cases
-abbrev Misses : {A : Type 0} → ℕ → List (Case A) → Type 0
-Misses k [] = Unit {0}
-Misses k (case n a ∷ cs) = (k ≡ n → ⊥) × Misses k cs
-
-select-other : {A : Type 0} (k : ℕ) (cs : List (Case A)) (d : A) → Misses k cs → select cs d k ≡ d
-select-other k [] d m = refl
-select-other k (case n a ∷ cs) d m = rw (ne-eqb n k (λ q. m .0 (sym q)), select) (select-other k cs d (m .1))
 
 module _ (o : ℕ) (b b₁ : List ℕ) where
   pub hex-one : (c d r : ℕ) → c < 16 → d ≡ hexDigit c → Put 1 o (d ∷ []) b b₁ r → Put 2 o (hex c) b b₁ r

@@ -10,11 +10,21 @@ use native.Mathlib.Omega.{arith}
 use lib.Dec.{leb, eqb}
 use lib.ListN.{length, take, drop, length-append, take-append-drop}
 use lib.Seq.{take-at, drop-at, length-take-le}
-use borrow.Author.Tests.{leb-true, le-leb, eqb-true, eq-eqb}
+use borrow.Author.Tests.{leb-true, le-leb, eqb-true, eq-eqb, ne-eqb}
 use Rattle.kinds.proofs.Logic.{both}
 use Rattle.model.specs.Layout.{littleEndian, leValue, recordOf, Piece, piece, noPiece, pieceOf}
 use Rattle.model.specs.Record.{given, onOption, when, ended, onPiece, ofKind, wholly, fronted, Case, case, select, eachBy, eachIn, each}
 use Rattle.model.proofs.Pieces.{Bytes, bytes-take, bytes-drop, le-length, le-read, le-written, le-below, record-length, piece-read, Begins, piece-written}
+
+-- a number that is none of the cases
+module _ {A : Type 0} where
+  abbrev pub Misses : ℕ → List (Case A) → Type 0
+  Misses k [] = Unit {0}
+  Misses k (case n a ∷ cs) = (k ≡ n → ⊥) × Misses k cs
+
+  pub select-other : (k : ℕ) (cs : List (Case A)) (d : A) → Misses k cs → select cs d k ≡ d
+  select-other k [] d m = refl
+  select-other k (case n a ∷ cs) d m = rw (ne-eqb n k (λ q. m .0 (sym q)), select) (select-other k cs d (m .1))
 
 -- what T reads of a body of kind k is good, and is written so
 abbrev pub Sound : (w : ℕ) {A : Type 0} → (A → Bool) → (A → List ℕ) → ℕ → (List ℕ → Option A) → Type 0

@@ -15,6 +15,7 @@ use Rattle.kinds.specs.Kind.{BitWidth, bits, octets, isBitWidth, isByteLength, 
 use Rattle.kinds.proofs.Decimal.{decimal-one, decimal-more, decimal-short}
 use Rattle.model.specs.Layout.{leValue}
 use Rattle.model.specs.Record.{onOption, when, ended, wholly, Case, case, select, widthFrom, byteLengthFrom, elementaryCases, suffixCases, decodeElementary, decodeSuffix}
+use Rattle.model.proofs.Decoding.{Misses, select-other}
 use Rattle.record.specs.Texts.{measured, numbered, bare, elementaryFrom, suffixFrom}
 
 -- digits: one by itself, and those before the last
@@ -163,16 +164,6 @@ module _ (k : ℕ) where
 pub elementary-alone : (k : ℕ) (body : List ℕ) (r : ℕ) → length body ≡ 0 → r ≡ measured (elementaryFrom k []) → r ≡ measured (elementaryFrom k body)
 elementary-alone k [] r h e = e
 elementary-alone k (c ∷ t) r h e = absurd (omega arith)
-
--- a number that none of the cases has
-module _ {A : Type 0} where
-  abbrev pub Misses : ℕ → List (Case A) → Type 0
-  Misses k [] = Unit {0}
-  Misses k (case n a ∷ cs) = (k ≡ n → ⊥) × Misses k cs
-
-  pub select-other : (k : ℕ) (cs : List (Case A)) (d : A) → Misses k cs → select cs d k ≡ d
-  select-other k [] d m = refl
-  select-other k (case n a ∷ cs) d m = rw (ne-eqb n k (λ q. m .0 (sym q)), select) (select-other k cs d (m .1))
 
 pub elementary-other : (k : ℕ) (body : List ℕ) → Misses k elementaryCases → 0 ≡ measured (elementaryFrom k body)
 unfolding elementaryFrom decodeElementary measured

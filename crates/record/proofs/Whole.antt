@@ -20,7 +20,7 @@ use Rattle.record.specs.declared.Checked.the-variants as checked
 use Rattle.record.specs.Texts.{measured, fieldTextFrom, tupleTextFrom}
 use Rattle.record.specs.Parts.{Head, Alone}
 use Rattle.record.specs.Says.{Says}
-use Rattle.record.proofs.Lengths.{select-other}
+use Rattle.model.proofs.Decoding.{select-other}
 use Rattle.record.proofs.Equations.{fieldsIn, parted, field-steps, tuple-more, tuple-none}
 use Rattle.record.proofs.There.{FieldThere, nameEnd, field-there}
 
