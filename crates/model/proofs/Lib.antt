@@ -14,5 +14,6 @@ pub mod Stands
 pub mod KindBack
 pub mod Readback
 pub mod Spelling
+pub mod Loose
 pub mod Lines
 pub mod Demand
