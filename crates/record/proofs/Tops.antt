@@ -25,7 +25,7 @@ use Rattle.record.specs.Texts.{measured, fieldsFrom, tupleTextFrom}
 use Rattle.record.specs.Parts.{Head}
 use Rattle.record.proofs.Equations.{kind-full}
 use Rattle.record.proofs.Walk.{rest-length, body-length}
-use Rattle.record.specs.Says.{Says, NameEnds, ListIs}
+use Rattle.record.specs.Says.{Says, NoList, NameEnds, ListIs}
 
 -- a part of what is left behind `at` is a part of all
 part-of : (b : List ℕ) (at n : ℕ) → take (n - 6) (drop 6 (drop at b)) ≡ take (at + n - (at + 6)) (drop (at + 6) b)
@@ -295,8 +295,8 @@ module _ (b : List ℕ) where
           pub event-more : (l .to ≡ length b → ⊥) → Says b (eventFrom 4 (drop 6 b)) none checked.IllFormed
           event-more w = (event-inputs ∙ ended-more b (l .to) _ (j .inside) w, refl)
 
-          pub event-is : (u : Measured) → l .to ≡ length b → a ≤ 1 → Says b (eventFrom 4 (drop 6 b)) none (checked.Declared keyword.Event (record { from = 14; to = p }) l u)
-          event-is u w g = (
+          pub event-is : (u : Measured) → NoList u → l .to ≡ length b → a ≤ 1 → Says b (eventFrom 4 (drop 6 b)) none (checked.Declared keyword.Event (record { from = 14; to = p }) l u)
+          event-is u x w g = (
             record {
               anonymous = a;
               name = take (p - 14) (drop 14 b);
@@ -304,6 +304,7 @@ module _ (b : List ℕ) where
               same = event-inputs ∙ ended-all b (l .to) _ w ∙ rw (le-leb a 1 g);
               named = record { there = refl; order = i .order z; inside = i .inside };
               inputs = j .some y .said;
+              outputs = x;
             },
             refl,
           )
@@ -333,14 +334,15 @@ module _ (b : List ℕ) (p : ℕ) (i : NameEnds b 6 p) where
       pub error-more : (l .to ≡ length b → ⊥) → Says b (errorFrom 4 (drop 6 b)) none checked.IllFormed
       error-more w = (error-inputs ∙ ended-more b (l .to) _ (j .inside) w, refl)
 
-      pub error-is : (u : Measured) → l .to ≡ length b → Says b (errorFrom 4 (drop 6 b)) none (checked.Declared keyword.Error (record { from = 12; to = p }) l u)
-      error-is u w = (
+      pub error-is : (u : Measured) → NoList u → l .to ≡ length b → Says b (errorFrom 4 (drop 6 b)) none (checked.Declared keyword.Error (record { from = 12; to = p }) l u)
+      error-is u x w = (
         record {
           name = take (p - 12) (drop 12 b);
           ins = j .some y .fs;
           same = error-inputs ∙ ended-all b (l .to) _ w;
           named = record { there = refl; order = i .order z; inside = i .inside };
           inputs = j .some y .said;
+          outputs = x;
         },
         refl,
       )

@@ -41,6 +41,12 @@ pub record KindSaid (b : List ℕ) (l : Measured) (f : Field) : Type 0 where
   pub order : l .from ≤ l .to
   pub inside : l .to ≤ length b
 
+-- no list
+pub record NoList (l : Measured) : Type 0 where
+  pub from : l .from ≡ 0
+  pub to : l .to ≡ 0
+  pub text : l .text ≡ 0
+
 -- o is the declaration that b says
 pub record FunctionSaid (b : List ℕ) (o : Option Declaration) (s : Spot) (i u : Measured) : Type 0 where
   pub mutability : ℕ
@@ -57,27 +63,29 @@ pub record ConstructorSaid (o : Option Declaration) : Type 0 where
   pub ins : Fields
   pub same : o ≡ some (Declaration.constructor mutability ins)
 
-pub record EventSaid (b : List ℕ) (o : Option Declaration) (s : Spot) (i : Measured) : Type 0 where
+pub record EventSaid (b : List ℕ) (o : Option Declaration) (s : Spot) (i u : Measured) : Type 0 where
   pub anonymous : ℕ
   pub name : List ℕ
   pub ins : Fields
   pub same : o ≡ some (Declaration.event anonymous name ins)
   pub named : NameSaid b s name
   pub inputs : ListSaid b EventSort i ins
+  pub outputs : NoList u
 
-pub record ErrorSaid (b : List ℕ) (o : Option Declaration) (s : Spot) (i : Measured) : Type 0 where
+pub record ErrorSaid (b : List ℕ) (o : Option Declaration) (s : Spot) (i u : Measured) : Type 0 where
   pub name : List ℕ
   pub ins : Fields
   pub same : o ≡ some (Declaration.error name ins)
   pub named : NameSaid b s name
   pub inputs : ListSaid b Plain i ins
+  pub outputs : NoList u
 
 -- the same by its keyword; a constructor has no name
 abbrev pub Declares : Keyword → List ℕ → Option Declaration → Spot → Measured → Measured → Type 0
 Declares keyword.Function b o s i u = FunctionSaid b o s i u
 Declares keyword.Constructor b o s i u = ⊥
-Declares keyword.Event b o s i u = EventSaid b o s i
-Declares keyword.Error b o s i u = ErrorSaid b o s i
+Declares keyword.Event b o s i u = EventSaid b o s i u
+Declares keyword.Error b o s i u = ErrorSaid b o s i u
 
 -- f is the field that b says by itself
 pub record FieldSaid (b : List ℕ) (f : Option Field) (s : Spot) (l : Measured) : Type 0 where

@@ -14,7 +14,7 @@ ghost use mathlib.Core.List.{[], _++_};
 ghost use mathlib.Core.Option.{none};
 ghost use Rattle.model.specs.declared.Sort.the-variants.{Plain};
 ghost use Rattle.model.specs.Record.{isFieldName, isMark, decodeField, functionFrom, constructorFrom, eventFrom, errorFrom, decode, decodeLone};
-ghost use Rattle.record.specs.Says.{Says, NameEnds, ListIs};
+ghost use Rattle.record.specs.Says.{Says, NoList, NameEnds, ListIs};
 ghost use Rattle.record.specs.Texts.{measured, behind, numbered, bare, elementaryFrom, suffixFrom, suffixesFrom, kindFrom, fieldTextFrom, tupleTextFrom};
 ghost use Rattle.record.specs.Parts.{Head, Front, Alone};
 
@@ -449,7 +449,7 @@ fn list(b: &[u8], at: usize, sort: Sort) -> Measured
 
 // No list.
 fn missing() -> Measured
-    ensures { λ r. ⌜ (r .to ≡ 0) × (r .text ≡ 0) ⌝ }
+    ensures { λ r. ⌜ NoList r ⌝ }
 {
     Measured {
         from: 0,

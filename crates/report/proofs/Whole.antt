@@ -133,19 +133,19 @@ of-function : (b : List ℕ) (s : Spot) (i o : Measured) → FunctionSaid b (dec
 unfolding nameKinds keywordIn canonical
 of-function b s i o f = has-line b (Declaration.function (f .mutability) (f .name) (f .ins) (f .outs)) _ key.Function (f .same) refl refl (lengths b s (f .name) _ i (f .ins) (f .named) (f .inputs))
 
-of-event : (b : List ℕ) (s : Spot) (i : Measured) → EventSaid b (decode b) s i → HasLine b key.Event
+of-event : (b : List ℕ) (s : Spot) (i o : Measured) → EventSaid b (decode b) s i o → HasLine b key.Event
 unfolding nameKinds keywordIn canonical
-of-event b s i f = has-line b (Declaration.event (f .anonymous) (f .name) (f .ins)) _ key.Event (f .same) refl refl (lengths b s (f .name) _ i (f .ins) (f .named) (f .inputs))
+of-event b s i o f = has-line b (Declaration.event (f .anonymous) (f .name) (f .ins)) _ key.Event (f .same) refl refl (lengths b s (f .name) _ i (f .ins) (f .named) (f .inputs))
 
-of-error : (b : List ℕ) (s : Spot) (i : Measured) → ErrorSaid b (decode b) s i → HasLine b key.Error
+of-error : (b : List ℕ) (s : Spot) (i o : Measured) → ErrorSaid b (decode b) s i o → HasLine b key.Error
 unfolding nameKinds keywordIn canonical
-of-error b s i f = has-line b (Declaration.error (f .name) (f .ins)) _ key.Error (f .same) refl refl (lengths b s (f .name) _ i (f .ins) (f .named) (f .inputs))
+of-error b s i o f = has-line b (Declaration.error (f .name) (f .ins)) _ key.Error (f .same) refl refl (lengths b s (f .name) _ i (f .ins) (f .named) (f .inputs))
 
 of-keyword : (b : List ℕ) (k : Keyword) (s : Spot) (i o : Measured) → Declares k b (decode b) s i o → HasLine b k
 of-keyword b key.Function s i o f = of-function b s i o f
 of-keyword b key.Constructor s i o f = absurd f
-of-keyword b key.Event s i o f = of-event b s i f
-of-keyword b key.Error s i o f = of-error b s i f
+of-keyword b key.Event s i o f = of-event b s i o f
+of-keyword b key.Error s i o f = of-error b s i o f
 
 module _ (b : List ℕ) (c : Checked) (h : Says b (decode b) (decodeLone b) c) where
   pub declared-line : (k : Keyword) (s : Spot) (i o : Measured) → c ≡ checked.Declared k s i o → HasLine b k

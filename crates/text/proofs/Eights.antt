@@ -19,7 +19,7 @@ use Rattle.model.specs.Layout.{littleEndian, leValue}
 use Rattle.model.specs.Text.{spanFrom, span, one, wordLength}
 use Rattle.model.proofs.Scans.{word-first}
 use Rattle.model.proofs.Pieces.{Bytes, bytes-take, bytes-drop, le-length, le-bytes, le-read, le-written}
-use Rattle.text.specs.Found.{flag, flags, Begun}
+use Rattle.text.specs.Found.{isAlphabetic, flag, flags, Begun}
 
 -- a test of a byte, made at each number below a limit
 abbrev below : ℕ → (ℕ → Bool) → Bool
@@ -199,52 +199,59 @@ ranged true y z h = refl
 ranged false true z h = refl
 ranged false false z h = absurd (false≢true h)
 
-take-none : {A : Type 0} (n : ℕ) → take {A = A} n [] ≡ []
-take-none zero = refl
-take-none (suc n) = refl
-
-flag-by : (c : ℕ) (b : Bool) → (between 97 122 c || between 65 90 c) ≡ b → flag c ≡ elim b [ true ↦ 0 | false ↦ 128 ]
+flag-by : (c : ℕ) (b : Bool) → (isAlphabetic c) ≡ b → flag c ≡ elim b [ true ↦ 0 | false ↦ 128 ]
 unfolding flag
 flag-by c b q = ap (λ x. elim x as (λ _. ℕ) [ true ↦ 0 | false ↦ 128 ]) q
 
+-- how far the letters reach, by the zeros
 abbrev leading : List ℕ → ℕ
 leading t = trailingZeros (bits (length t)) (flags t) / 8
 
-leading-letters : (t : List ℕ) → all isLetter (take (leading t) t) ≡ true
-unfolding flags
-leading-letters [] = rw (take-none (leading []))
-leading-letters (c ∷ t) = go (between 97 122 c || between 65 90 c) refl (leading-letters t)
+leading-span : (t : List ℕ) → leading t ≡ span (one isAlphabetic) t
+unfolding flags spanFrom trailingZeros
+leading-span [] = refl
+leading-span (c ∷ t) = go (isAlphabetic c) refl (leading-span t)
   where
     count : (x : ℕ) → flag c ≡ x → leading (c ∷ t) ≡ trailingZeros (bits (suc (length t))) (x + 256 * flags t) / 8
     count x e = ap (λ y. trailingZeros (bits (suc (length t))) (y + 256 * flags t) / 8) e
 
-    go : (b : Bool) → (between 97 122 c || between 65 90 c) ≡ b → all isLetter (take (leading t) t) ≡ true → all isLetter (take (leading (c ∷ t)) (c ∷ t)) ≡ true
+    go : (b : Bool) → isAlphabetic c ≡ b → leading t ≡ span (one isAlphabetic) t → leading (c ∷ t) ≡ span (one isAlphabetic) (c ∷ t)
     go true q h =
         let e : leading (c ∷ t) ≡ suc (leading t) = count 0 (flag-by c true q) ∙ omega (arith, byte-clear (bits (length t)) (flags t)) in
-        rw e (both (ranged (between 97 122 c) (between 65 90 c) _ q) h)
+        e ∙ rw (spanFrom, q) (ap suc h)
     go false q h =
         let e : leading (c ∷ t) ≡ 0 = count 128 (flag-by c false q) ∙ omega (arith, byte-set (bits (length t)) (flags t)) in
-        rw e
+        e ∙ rw (spanFrom, q)
 
--- how many letters eight bytes begin with, where z counts the zeros
+-- the letters that are counted are letters
+span-letters : (t : List ℕ) → all isLetter (take (span (one isAlphabetic) t) t) ≡ true
+unfolding spanFrom
+span-letters [] = refl
+span-letters (c ∷ t) = go (isAlphabetic c) refl (span-letters t)
+  where
+    go : (b : Bool) → isAlphabetic c ≡ b → all isLetter (take (span (one isAlphabetic) t) t) ≡ true → all isLetter (take (span (one isAlphabetic) (c ∷ t)) (c ∷ t)) ≡ true
+    go true q h = rw (spanFrom, q) (both (ranged (between 97 122 c) (between 65 90 c) _ q) h)
+    go false q h = rw (spanFrom, q)
+
+pub lead-letters : (v c : ℕ) → c ≡ span (one isAlphabetic) (littleEndian 8 v) → all isLetter (take c (littleEndian 8 v)) ≡ true
+lead-letters v c e = rw e (span-letters (littleEndian 8 v))
+
+-- how many eight bytes begin with, where z counts the zeros
 module _ (v f z : ℕ) (e : f ≡ flags (littleEndian 8 v)) (q : z ≡ trailingZeros 64 f) where
-  pub lead-small : z ≤ 64
-  lead-small = rw q (trailing-le 64 f)
-
   pub lead-few : z / 8 ≤ 8
-  lead-few = omega (arith, lead-small)
+  lead-few = omega (arith, q, trailing-le 64 f)
 
-  pub lead-letters : all isLetter (take (z / 8) (littleEndian 8 v)) ≡ true
-  lead-letters =
+  pub lead-span : z / 8 ≡ span (one isAlphabetic) (littleEndian 8 v)
+  lead-span =
       let n : bits (length (littleEndian 8 v)) ≡ 64 = rw (le-length 8 v) in
       let x : trailingZeros (bits (length (littleEndian 8 v))) (flags (littleEndian 8 v)) ≡ z = ap₂ trailingZeros n (sym e) ∙ sym q in
-      rw (← x) (leading-letters (littleEndian 8 v))
+      ap (λ y. y / 8) (sym x) ∙ leading-span (littleEndian 8 v)
 
 -- no bit set: letters alone
-clear-first : (c r : ℕ) → flag c + 256 * r ≡ 0 → (between 97 122 c || between 65 90 c) ≡ true
-clear-first c r e = go (between 97 122 c || between 65 90 c) refl
+clear-first : (c r : ℕ) → flag c + 256 * r ≡ 0 → (isAlphabetic c) ≡ true
+clear-first c r e = go (isAlphabetic c) refl
   where
-    go : (b : Bool) → (between 97 122 c || between 65 90 c) ≡ b → b ≡ true
+    go : (b : Bool) → (isAlphabetic c) ≡ b → b ≡ true
     go true q = refl
     go false q = absurd (omega (arith, flag-by c false q))
 
@@ -325,4 +332,4 @@ begun-first t r h e f = record { inside = omega arith; rest = word-first t r h e
 
 pub ruleset beginnings = (word-stopped, word-more, word-ended, begun-first)
 
-pub ruleset eights = (others-room, others-are, lead-small, lead-few, lead-letters)
+pub ruleset eights = (others-room, others-are)

@@ -53,9 +53,13 @@ pub record DigitIs (c d : ℕ) : Type 0 where
   pub value : d < 10 → d ≡ c - 48
   pub small : d ≤ 10
 
--- 128 for a byte that is none of a-z, A-Z, and 0 for one of them
+-- a-z, A-Z
+abbrev pub isAlphabetic : ℕ → Bool
+isAlphabetic c = between 97 122 c || between 65 90 c
+
+-- 128 for a byte that is none of these, and 0 for one of them
 unfoldable pub flag : ℕ → ℕ
-flag c = elim (between 97 122 c || between 65 90 c) [ true ↦ 0 | false ↦ 128 ]
+flag c = elim (isAlphabetic c) [ true ↦ 0 | false ↦ 128 ]
 
 -- the same for bytes, as the number that they make: the first byte is the lowest
 unfoldable pub flags : List ℕ → ℕ

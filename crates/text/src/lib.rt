@@ -11,7 +11,7 @@ ghost use Rattle.kinds.specs.Decimal.{plain, number};
 ghost use Rattle.model.specs.Layout.{littleEndian};
 ghost use Rattle.model.specs.Text.{span, one, tails, scalar, validLength, isBlank, blank, skip, peek, wordLength, runByte, runLength};
 ghost use Rattle.model.specs.KindText.{starts};
-ghost use Rattle.text.specs.Found.{flags, Begun, tailOf, codeOf, charFrom, CharIs, Skipped, toOption, Pushed, DigitIs};
+ghost use Rattle.text.specs.Found.{isAlphabetic, flags, Begun, tailOf, codeOf, charFrom, CharIs, Skipped, toOption, Pushed, DigitIs};
 
 // 0-9
 pub fn is_digit(c: u8) -> bool
@@ -34,7 +34,7 @@ fn is_upper(c: u8) -> bool
 
 // a-z, A-Z: most bytes of a word.
 fn is_alphabetic(c: u8) -> bool
-    ensures { λ r. ⌜ r ≡ (between 97 122 c || between 65 90 c) ⌝ }
+    ensures { λ r. ⌜ r ≡ isAlphabetic c ⌝ }
 {
     is_lower(c) || is_upper(c)
 }
@@ -79,9 +79,9 @@ pub fn others(v: u64) -> u64
     (v | (u + 0x0505050505050505) | (0xE0E0E0E0E0E0E0E0 - u)) & 0x8080808080808080
 }
 
-// How many letters eight bytes begin with. Others of a word may follow.
+// How many of a-z, A-Z eight bytes begin with.
 fn lead(v: u64) -> usize
-    ensures { λ r. ⌜ (r ≤ 8) × (all isLetter (take r (littleEndian 8 v)) ≡ true) ⌝ }
+    ensures { λ r. ⌜ (r ≡ span (one isAlphabetic) (littleEndian 8 v)) × (r ≤ 8) ⌝ }
 {
     (u64::trailing_zeros(others(v)) / 8) as usize
 }

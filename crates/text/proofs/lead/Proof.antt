@@ -1,6 +1,6 @@
 use mathlib.Core.Path.{refl}
 use lib.Count.{trailing-le}
-use Rattle.text.proofs.Eights.{lead-few, lead-letters}
+use Rattle.text.proofs.Eights.{lead-few, lead-span}
 use borrow.Author.Needs.{needs}
 use Rattle.text.proofs.lead.Statement.{statement}
 use Rattle.text.proofs.lead.Tie as tie
@@ -18,7 +18,7 @@ cast-result c = search (needs, trailing-le 64 (c .others .result))
 
 -- src/lib.rt:83:1
 returns : tie.Need-returns
-returns c = (lead-few _ _ _ (c .others .ensures) refl, lead-letters _ _ _ (c .others .ensures) refl)
+returns c = (lead-span _ _ _ (c .others .ensures) refl, lead-few _ _ _ (c .others .ensures) refl)
 
 pub lead-spec : {M : Type 1} → statement M
 lead-spec = tie.close (tie.spec others-requires cast-result returns)

@@ -1,6 +1,6 @@
 use native.Mathlib.Omega.{arith}
 use Rattle.text.specs.Found.{Begun}
-use Rattle.text.proofs.Eights.{known-bytes, first-eight, all-eight, second-eight, word-stopped}
+use Rattle.text.proofs.Eights.{known-bytes, lead-letters, first-eight, all-eight, second-eight, word-stopped}
 use borrow.Author.Needs.{needs}
 use Rattle.text.proofs.word.Statement.{statement}
 use Rattle.text.proofs.word.Tie as tie
@@ -30,7 +30,7 @@ is-word-byte-requires c κs = search needs
 
 -- src/lib.rt:126:21
 word-from-requires : tie.Need-word-from-requires
-word-from-requires c κs = (first-eight (c .before .before .before .before .before .before .before .before .before .args .t .now) (known-bytes (c .before .before .before .before .before .before .before .before .before .args .t .now) (λ i. omega (arith, (c .before .before .before .before .before .before .before .before .shared-slice-known .given) i))) _ _ (c .before .before .before .before .before .before .before .if1 .taken) (c .before .before .before .before .before .before .get8 .ensures) (c .before .before .before .before .before .lead .ensures .0) (c .before .before .before .before .before .lead .ensures .1) (c .before .before .before .before .if2 .taken))
+word-from-requires c κs = (first-eight (c .before .before .before .before .before .before .before .before .before .args .t .now) (known-bytes (c .before .before .before .before .before .before .before .before .before .args .t .now) (λ i. omega (arith, (c .before .before .before .before .before .before .before .before .shared-slice-known .given) i))) _ _ (c .before .before .before .before .before .before .before .if1 .taken) (c .before .before .before .before .before .before .get8 .ensures) (c .before .before .before .before .before .lead .ensures .1) (lead-letters _ _ (c .before .before .before .before .before .lead .ensures .0)) (c .before .before .before .before .if2 .taken))
 
 -- src/lib.rt:126:21
 returns : tie.Need-returns
@@ -38,7 +38,7 @@ returns c = search needs
 
 -- src/lib.rt:128:17
 returns-2 : tie.Need-returns-2
-returns-2 c = (word-stopped _ _ _ (first-eight (c .before .before .before .before .before .before .before .before .before .args .t .now) (known-bytes (c .before .before .before .before .before .before .before .before .before .args .t .now) (λ i. omega (arith, (c .before .before .before .before .before .before .before .before .shared-slice-known .given) i))) _ _ (c .before .before .before .before .before .before .before .if1 .taken) (c .before .before .before .before .before .before .get8 .ensures) (c .before .before .before .before .before .lead .ensures .0) (c .before .before .before .before .before .lead .ensures .1) (c .before .before .before .before .if2 .taken)) (omega (arith, (c .before .before .before .before .before .before .before .if1 .taken), (c .before .before .before .if3 .taken))) (c .before .is-word-byte .ensures) (c .if4 .left), (first-eight (c .before .before .before .before .before .before .before .before .before .args .t .now) (known-bytes (c .before .before .before .before .before .before .before .before .before .args .t .now) (λ i. omega (arith, (c .before .before .before .before .before .before .before .before .shared-slice-known .given) i))) _ _ (c .before .before .before .before .before .before .before .if1 .taken) (c .before .before .before .before .before .before .get8 .ensures) (c .before .before .before .before .before .lead .ensures .0) (c .before .before .before .before .before .lead .ensures .1) (c .before .before .before .before .if2 .taken)) .inside)
+returns-2 c = (word-stopped _ _ _ (first-eight (c .before .before .before .before .before .before .before .before .before .args .t .now) (known-bytes (c .before .before .before .before .before .before .before .before .before .args .t .now) (λ i. omega (arith, (c .before .before .before .before .before .before .before .before .shared-slice-known .given) i))) _ _ (c .before .before .before .before .before .before .before .if1 .taken) (c .before .before .before .before .before .before .get8 .ensures) (c .before .before .before .before .before .lead .ensures .1) (lead-letters _ _ (c .before .before .before .before .before .lead .ensures .0)) (c .before .before .before .before .if2 .taken)) (omega (arith, (c .before .before .before .before .before .before .before .if1 .taken), (c .before .before .before .if3 .taken))) (c .before .is-word-byte .ensures) (c .if4 .left), (first-eight (c .before .before .before .before .before .before .before .before .before .args .t .now) (known-bytes (c .before .before .before .before .before .before .before .before .before .args .t .now) (λ i. omega (arith, (c .before .before .before .before .before .before .before .before .shared-slice-known .given) i))) _ _ (c .before .before .before .before .before .before .before .if1 .taken) (c .before .before .before .before .before .before .get8 .ensures) (c .before .before .before .before .before .lead .ensures .1) (lead-letters _ _ (c .before .before .before .before .before .lead .ensures .0)) (c .before .before .before .before .if2 .taken)) .inside)
 
 -- src/lib.rt:131:46
 get8-requires-2 : tie.Need-get8-requires-2
@@ -54,7 +54,7 @@ add-word-from c = search needs
 
 -- src/lib.rt:131:17
 word-from-requires-2 : tie.Need-word-from-requires-2
-word-from-requires-2 c κs = second-eight (c .before .before .before .before .before .before .before .before .before .args .t .now) (known-bytes (c .before .before .before .before .before .before .before .before .before .args .t .now) (λ i. omega (arith, (c .before .before .before .before .before .before .before .before .shared-slice-known .given) i))) _ _ _ _ (c .before .before .if5 .taken) (c .before .before .before .before .before .before .get8 .ensures) (c .before .before .before .before .before .lead .ensures .0) (c .before .before .before .before .before .lead .ensures .1) (c .before .before .before .if3 .left) (c .before .get82 .ensures) (c .lead2 .ensures .0) (c .lead2 .ensures .1)
+word-from-requires-2 c κs = second-eight (c .before .before .before .before .before .before .before .before .before .args .t .now) (known-bytes (c .before .before .before .before .before .before .before .before .before .args .t .now) (λ i. omega (arith, (c .before .before .before .before .before .before .before .before .shared-slice-known .given) i))) _ _ _ _ (c .before .before .if5 .taken) (c .before .before .before .before .before .before .get8 .ensures) (c .before .before .before .before .before .lead .ensures .1) (lead-letters _ _ (c .before .before .before .before .before .lead .ensures .0)) (c .before .before .before .if3 .left) (c .before .get82 .ensures) (c .lead2 .ensures .1) (lead-letters _ _ (c .lead2 .ensures .0))
 
 -- src/lib.rt:131:17
 returns-3 : tie.Need-returns-3
@@ -62,7 +62,7 @@ returns-3 c = search needs
 
 -- src/lib.rt:133:13
 word-from-requires-3 : tie.Need-word-from-requires-3
-word-from-requires-3 c κs = all-eight (c .before .before .before .before .before .before .before .args .t .now) (known-bytes (c .before .before .before .before .before .before .before .args .t .now) (λ i. omega (arith, (c .before .before .before .before .before .before .shared-slice-known .given) i))) _ _ (c .before .before .before .before .before .if1 .taken) (c .before .before .before .before .get8 .ensures) (c .before .before .before .lead .ensures .0) (c .before .before .before .lead .ensures .1) (c .before .if3 .left)
+word-from-requires-3 c κs = all-eight (c .before .before .before .before .before .before .before .args .t .now) (known-bytes (c .before .before .before .before .before .before .before .args .t .now) (λ i. omega (arith, (c .before .before .before .before .before .before .shared-slice-known .given) i))) _ _ (c .before .before .before .before .before .if1 .taken) (c .before .before .before .before .get8 .ensures) (c .before .before .before .lead .ensures .1) (lead-letters _ _ (c .before .before .before .lead .ensures .0)) (c .before .if3 .left)
 
 -- src/lib.rt:133:13
 returns-4 : tie.Need-returns-4
