@@ -25,7 +25,7 @@ use Rattle.fields.specs.declared.Read.{Read}
 use Rattle.fields.specs.declared.Read.the-variants.{Got, Bad, Deep}
 use Rattle.fields.specs.Words.{WordIs}
 use Rattle.fields.specs.Scratch.{toRead, bytesOf, Room}
-use Rattle.fields.proofs.Spots.{Small, lookup-small, option-none, option-some}
+use Rattle.fields.proofs.Spots.{word-is, Small, lookup-small, option-none, option-some}
 use Rattle.fields.proofs.Family.{is-got, is-bad, is-deep, of-got, of-bad, of-deep}
 use Rattle.declaration.specs.declared.Stated.{Stated}
 use Rattle.declaration.specs.Stages.{Paid, Did, Behind, Took, keywordIs, identOf, listIn, returnsOf, sortOf, nameOf, wordsOf, absent, statedBy, StatedIs, outputsOf, codeOf, numberOf, frontLength, frontOf, declarationOf, tailOf, TailIs, bodyOf, Whole}
@@ -410,4 +410,4 @@ module _ (s : List ℕ) (k : Keyword) (b : List ℕ) (r : Read) (t : Took s 5 (k
         let a = of-got (λ _. []) (keyword (keywordText k) s 0) (bytesOf (keywordIs k s)) n (is-got (keywordIs k s) n l (sym e ∙ t .same) .0) in
         rw (exec-by (got (a .what) n) (a .same)) w
 
-pub ruleset bodies = (not-stated, stated, absent-function, absent-constructor, absent-event, absent-error, length-function, length-constructor, length-event, length-error, name-function, name-event, name-error, name-constructor, outputs-function, outputs-constructor, outputs-event, outputs-error, front-function, front-constructor, front-event, front-error, tail-bad, tail-deep, unended-bad, unended-deep, tail-got, body-bad, body-deep, inputs-room, inputs-bad, inputs-deep, tail-room, body-got, exec-bad, exec-deep, body-room, exec-got)
+pub ruleset bodies = (word-is, not-stated, stated, absent-function, absent-constructor, absent-event, absent-error, length-function, length-constructor, length-event, length-error, name-function, name-event, name-error, name-constructor, outputs-function, outputs-constructor, outputs-event, outputs-error, front-function, front-constructor, front-event, front-error, tail-bad, tail-deep, unended-bad, unended-deep, tail-got, body-bad, body-deep, inputs-room, inputs-bad, inputs-deep, tail-room, body-got, exec-bad, exec-deep, body-room, exec-got)

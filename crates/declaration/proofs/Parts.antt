@@ -33,7 +33,7 @@ use Rattle.fields.specs.declared.Read.{Read}
 use Rattle.fields.specs.declared.Read.the-variants.{Got, Bad, Deep}
 use Rattle.fields.specs.Words.{WordIs, Looked}
 use Rattle.fields.specs.Scratch.{toRead, bytesOf, Room, Put, listOf}
-use Rattle.fields.proofs.Spots.{no-ident, is-ident, AllSmall, lookup-small, option-none, option-some}
+use Rattle.fields.proofs.Spots.{word-is, no-ident, is-ident, AllSmall, lookup-small, option-none, option-some}
 use Rattle.fields.proofs.Ends.{look-found, look-missing, seen, unseen, take-got, take-eos, take-bad}
 use Rattle.fields.proofs.Family.{of-got, of-bad, of-deep}
 use Rattle.fields.proofs.Family as family
@@ -289,4 +289,4 @@ module _ (k : Keyword) (w : List ℕ) where
   unfolding statedBy wordsOf
   error-nothing e = rw e
 
-pub ruleset parts = (is-function, is-constructor, is-event, is-error, keyword-here, keyword-missing, ident-none, ident-got, list-eos, list-unopened, list-bad, list-deep, list-room, list-got, returns-list, returns-none, end-semicolon, end-more, end-here, end-bad, sort-function, sort-constructor, sort-event, sort-error, states-pure, states-view, states-payable, states-nothing, constructor-payable, constructor-nothing, event-anonymous, event-nothing, error-nothing)
+pub ruleset parts = (word-is, is-function, is-constructor, is-event, is-error, keyword-here, keyword-missing, ident-none, ident-got, list-eos, list-unopened, list-bad, list-deep, list-room, list-got, returns-list, returns-none, end-semicolon, end-more, end-here, end-bad, sort-function, sort-constructor, sort-event, sort-error, states-pure, states-view, states-payable, states-nothing, constructor-payable, constructor-nothing, event-anonymous, event-nothing, error-nothing)

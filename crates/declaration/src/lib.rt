@@ -38,9 +38,8 @@ fn is_keyword(k: Keyword, w: &[u8]) -> bool
 fn keyword(s: &[u8], k: Keyword) -> Read
     ensures { λ r. ⌜ Took (now (s .entry)) 5 (keywordIs k (now (s .entry))) r ⌝ }
 {
-    let w = fields::word(s, 0);
-    let a = w.from;
-    let e = w.to;
+    let a = text::skip(s, 0);
+    let e = fields::word_end(s, a);
     if is_keyword(k, &s[a..e]) {
         return Read::Got { next: e, len: 0 };
     }
@@ -55,9 +54,8 @@ fn ident(s: &[u8], at: usize, out: &mut [u8], o: usize) -> Read
     requires { ⌜ Room 0 32 (now s) at o (now out) ⌝ }
     ensures { λ r. ⌜ Did 0 (now (s .entry)) at o (now (out .entry)) (now (out .exit)) (identOf (now (s .entry)) at) r ⌝ }
 {
-    let w = fields::word(s, at);
-    let a = w.from;
-    let e = w.to;
+    let a = text::skip(s, at);
+    let e = fields::word_end(s, a);
     if a == e {
         return Read::Bad {
             refusal: Refusal::ExpectIdentifier,
@@ -107,9 +105,8 @@ fn returns(s: &[u8], at: usize, out: &mut [u8], o: usize) -> Read
     requires { ⌜ Room 0 33 (now s) at o (now out) ⌝ }
     ensures { λ r. ⌜ Did 6 (now (s .entry)) at o (now (out .entry)) (now (out .exit)) (returnsOf (now (s .entry)) at) r ⌝ }
 {
-    let w = fields::word(s, at);
-    let a = w.from;
-    let e = w.to;
+    let a = text::skip(s, at);
+    let e = fields::word_end(s, a);
     if text::equal(b"returns", &s[a..e]) {
         return field_list(s, e, fields::look(s, e), Sort::Parameter, out, o);
     }
@@ -197,9 +194,8 @@ fn option(s: &[u8], at: usize, k: Keyword) -> Stated
     requires { ⌜ at ≤ length (now s) ⌝ }
     ensures { λ r. ⌜ StatedIs (now (s .entry)) at k (r .number) (r .next) ⌝ }
 {
-    let w = fields::word(s, at);
-    let a = w.from;
-    let e = w.to;
+    let a = text::skip(s, at);
+    let e = fields::word_end(s, a);
     let m = stated_by(k, &s[a..e]);
     if m == 256 {
         return Stated {

@@ -23,21 +23,25 @@ use Rattle.model.proofs.Scans.{part-rest, peek-byte, peek-end}
 use Rattle.text.specs.Found.{Skipped}
 use Rattle.text.proofs.Skipping.{skipped-none}
 use Rattle.fields.specs.declared.Named.{Named}
-use Rattle.fields.specs.Words.{WordIs, Looked, marksBy, orNone, markOf, locationOf, nameAt, NamedIs}
+use Rattle.fields.specs.Words.{EndIs, WordIs, Looked, marksBy, orNone, markOf, locationOf, nameAt, NamedIs}
 
-pub word-is : (s : List ℕ) (at p n : ℕ) → Skipped s at p → n ≡ wordLength (take (length s - p) (drop p s)) → n ≤ length (take (length s - p) (drop p s)) → WordIs s at p (p + n)
+pub word-ends : (s : List ℕ) (a n : ℕ) → a ≤ length s → n ≡ wordLength (take (length s - a) (drop a s)) → n ≤ length (take (length s - a) (drop a s)) → EndIs s a (a + n)
+word-ends s a n h e l =
+    let f : n ≡ wordLength (drop a s) = rw part-rest at e in
+    let k : n ≤ length s - a = rw (part-rest, length-drop) at l in
+    record { end = rw f; order = omega arith; inside = omega arith }
+
+pub word-is : (s : List ℕ) (at a e : ℕ) → Skipped s at a → EndIs s a e → WordIs s at a e
 unfolding word wordEnd
-word-is s at p n k e l =
-    let f : n ≡ wordLength (drop p s) = rw part-rest at e in
-    let h : n ≤ length s - p = rw (part-rest, length-drop) at l in
-    let z : p + n - p ≡ n = omega arith in
+word-is s at a e k i =
+    let f : e - a ≡ wordLength (drop a s) = omega (arith, i .end) in
     record {
       place = k .place;
-      end = rw (← k .place, f);
-      bytes = rw (z, ← k .place, ← f);
+      end = rw (← k .place) (i .end);
+      bytes = rw (← k .place, f);
       low = k .low;
-      order = omega arith;
-      inside = omega (arith, k .inside);
+      order = i .order;
+      inside = i .inside;
     }
 
 -- 256 is no byte
@@ -229,4 +233,4 @@ module _ (s : List ℕ) (at : ℕ) (sort : Sort) (l : Bool) (a e m : ℕ) (h : a
         part = n .part;
       }
 
-pub ruleset spots = (word-is, looked, looked-here, calldata-is, memory-is, no-location, mark-plain, mark-located, mark-unlocated, mark-indexed, mark-unindexed, name-none, name-some, named-unmarked, named-marked)
+pub ruleset spots = (word-ends, word-is, looked, looked-here, calldata-is, memory-is, no-location, mark-plain, mark-located, mark-unlocated, mark-indexed, mark-unindexed, name-none, name-some, named-unmarked, named-marked)

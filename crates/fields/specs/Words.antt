@@ -10,12 +10,18 @@ use lib.ListN.{length, take, drop}
 use Rattle.kinds.specs.Bytes.{ascii}
 use Rattle.model.specs.declared.Sort.{Sort}
 use Rattle.model.specs.declared.Sort.the-variants.{Plain, Parameter, Event}
-use Rattle.model.specs.Text.{skip, peek}
+use Rattle.model.specs.Text.{skip, peek, wordLength}
 use Rattle.model.specs.Tree.{unmarked, indexed}
 use Rattle.model.specs.KindText.{Entry, entry, lookup}
 use Rattle.model.specs.Parser.{got, word, wordEnd, option, optionalName}
 use Rattle.model.specs.Reading.{locations}
 use Rattle.fields.specs.declared.Named.{Named}
+
+-- the place behind the word that stands at a place, which is that place if none does
+pub record EndIs (s : List ℕ) (a e : ℕ) : Type 0 where
+  pub end : e ≡ a + wordLength (drop a s)
+  pub order : a ≤ e
+  pub inside : e ≤ length s
 
 -- the word behind any blanks: its bytes stand from a to e
 pub record WordIs (s : List ℕ) (at a e : ℕ) : Type 0 where

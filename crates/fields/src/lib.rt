@@ -8,25 +8,15 @@ use value::RunKind;
 ghost use mathlib.Core.Path.{_≡_};
 ghost use Prim.Native.Nat.{_+_, _≤_, _<_};
 ghost use lib.ListN.{length};
-ghost use Rattle.fields.specs.Words.{WordIs, Looked, markOf, locationOf, nameAt, NamedIs};
+ghost use Rattle.fields.specs.Words.{EndIs, Looked, markOf, locationOf, nameAt, NamedIs};
 ghost use Rattle.fields.specs.Scratch.{Closes, BracketIs, InsideIs, Room, Grows, locatedBy, leafOf, Put, NamedRoom, NamedPut, Short, longerBy, fieldOf, tupleOf, listOf, ItemIs};
 
-// A part of the text, by its places.
-pub struct Spot {
-    pub from: usize,
-    pub to: usize,
-}
-
-// The word behind any blanks, empty if none stands there.
-pub fn word(s: &[u8], at: usize) -> Spot
-    requires { ⌜ at ≤ length (now s) ⌝ }
-    ensures { λ r. ⌜ WordIs (now (s .entry)) at (r .from) (r .to) ⌝ }
+// The place behind the word that stands at a place, which is that place if none does.
+pub fn word_end(s: &[u8], a: usize) -> usize
+    requires { ⌜ a ≤ length (now s) ⌝ }
+    ensures { λ r. ⌜ EndIs (now (s .entry)) a r ⌝ }
 {
-    let p = text::skip(s, at);
-    Spot {
-        from: p,
-        to: p + text::word(&s[p..]),
-    }
+    a + text::word(&s[a..])
 }
 
 // What stands behind any blanks, and where; the byte is 256 at the end.
@@ -106,15 +96,14 @@ pub fn mark_name(s: &[u8], at: usize, sort: Sort, located: bool) -> Named
     requires { ⌜ at ≤ length (now s) ⌝ }
     ensures { λ r. ⌜ NamedIs (now (s .entry)) at sort located (r .mark) (r .from) (r .to) (r .next) ⌝ }
 {
-    let w = word(s, at);
-    let a = w.from;
-    let e = w.to;
+    let a = text::skip(s, at);
+    let e = word_end(s, a);
     let m = mark_of(&s[a..e], sort, located);
     if m == 256 {
         return name(a, e, at, 0);
     }
-    let v = word(s, e);
-    name(v.from, v.to, e, m)
+    let v = text::skip(s, e);
+    name(v, word_end(s, v), e, m)
 }
 
 // A name from its places; where it is empty, the place before its blanks.

@@ -6,6 +6,7 @@ use Prim.Native.Nat.{ℕ, _≤_, _<_}
 use lib.Dec.{leb, eqb}
 use borrow.Author.Tests.{le-leb, lt-leb, eq-eqb, ne-eqb}
 use Rattle.kinds.specs.Bytes.{between, isDigit, isLetter, isWordByte}
+use Rattle.text.specs.Found.{isStop}
 
 -- a range, tested from below
 pub range-high : (low high c : ℕ) → low ≤ c → leb c high ≡ between low high c
@@ -45,4 +46,14 @@ module _ (c : ℕ) (r : Bool) (e : r ≡ (between 97 122 c || between 65 90 c)) 
       go true = refl
       go false = letter-alphabetic f
 
-pub ruleset classes = (range-high, range-low, either-first, either-second, letter-alphabetic, letter-dollar, letter-line, word-alphabetic)
+-- where most runs end
+pub stop-comma : (c : ℕ) → c ≡ 44 → true ≡ isStop c
+stop-comma c e = rw (eq-eqb c 44 e)
+
+pub stop-paren : (c : ℕ) → (c ≡ 44 → ⊥) → c ≡ 41 → true ≡ isStop c
+stop-paren c n e = rw (ne-eqb c 44 n, eq-eqb c 41 e)
+
+pub stop-space : (c : ℕ) → (c ≡ 44 → ⊥) → (c ≡ 41 → ⊥) → eqb c 32 ≡ isStop c
+stop-space c n m = rw (ne-eqb c 44 n, ne-eqb c 41 m)
+
+pub ruleset classes = (range-high, range-low, either-first, either-second, letter-alphabetic, letter-dollar, letter-line, word-alphabetic, stop-comma, stop-paren, stop-space)

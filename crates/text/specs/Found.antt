@@ -5,13 +5,13 @@ use mathlib.Core.Bool.{Bool, true, false, _||_}
 use mathlib.Core.List.{List, [], _∷_}
 use mathlib.Core.Option.{Option, none, some}
 use Prim.Native.Nat.{ℕ, zero, suc, _+_, _*_, _-_, _≤_, _<_}
-use lib.Dec.{ltb}
+use lib.Dec.{ltb, eqb}
 use lib.ListN.{length, drop}
 use Rattle.kinds.specs.Bytes.{between, isDigit, isWordByte}
 use Rattle.kinds.specs.Decimal.{atMost}
 use Rattle.text.specs.declared.Maybe.{Maybe}
 use Rattle.text.specs.declared.Maybe.the-variants.{Value, Absent}
-use Rattle.model.specs.Text.{span, one, Char, char, noChar, isTail, charOf, skip, wordLength}
+use Rattle.model.specs.Text.{span, one, Char, char, noChar, isTail, charOf, skip, wordLength, runByte, runLength}
 
 -- the six bits of a tail byte, and 64 if it is none
 unfoldable pub tailOf : ℕ → ℕ
@@ -57,16 +57,29 @@ pub record DigitIs (c d : ℕ) : Type 0 where
 abbrev pub isAlphabetic : ℕ → Bool
 isAlphabetic c = between 97 122 c || between 65 90 c
 
--- 128 for a byte that is none of these, and 0 for one of them
-unfoldable pub flag : ℕ → ℕ
-flag c = elim (isAlphabetic c) [ true ↦ 0 | false ↦ 128 ]
+-- ASCII above `,`: a byte of a run, whatever stands behind it
+abbrev pub isPlain : ℕ → Bool
+isPlain = between 45 127
+
+-- `,`, `)` and the space: a run ends there
+abbrev pub isStop : ℕ → Bool
+isStop c = eqb c 44 || (eqb c 41 || eqb c 32)
+
+-- 128 for a byte that fails a test, and 0 for one that passes
+unfoldable pub flag : (ℕ → Bool) → ℕ → ℕ
+flag p c = elim (p c) [ true ↦ 0 | false ↦ 128 ]
 
 -- the same for bytes, as the number that they make: the first byte is the lowest
-unfoldable pub flags : List ℕ → ℕ
-flags [] = 0
-flags (c ∷ t) = flag c + 256 * flags t
+unfoldable pub flags : (ℕ → Bool) → List ℕ → ℕ
+flags p [] = 0
+flags p (c ∷ t) = flag p c + 256 * flags p t
 
 -- the first c bytes are of the word that t begins with
 pub record Begun (t : List ℕ) (c : ℕ) : Type 0 where
   pub inside : c ≤ length t
   pub rest : c + span (one isWordByte) (drop c t) ≡ wordLength t
+
+-- the first c bytes are of the run that t begins with
+pub record Runs (t : List ℕ) (c : ℕ) : Type 0 where
+  pub inside : c ≤ length t
+  pub rest : c + span runByte (drop c t) ≡ runLength t

@@ -1,9 +1,10 @@
 // Scanning texts: bytes, characters, blanks, words, runs and numbers. A scanner is handed a part of the text and answers a length.
 ghost use mathlib.Core.Path.{_≡_};
 ghost use mathlib.Core.Option.{some};
-ghost use Prim.Native.Nat.{_+_, _*_, _≤_, _<_};
+ghost use Prim.Native.Nat.{_+_, _*_, _/_, _≤_, _<_};
 ghost use mathlib.Core.Bool.{true};
 ghost use lib.Dec.{eqb};
+ghost use lib.Count.{trailingZeros};
 ghost use lib.ListN.{length, take, drop};
 ghost use mathlib.Core.Bool.{_||_};
 ghost use Rattle.kinds.specs.Bytes.{all, between, isAscii, isDigit, isLetter, isWordByte, same};
@@ -11,7 +12,7 @@ ghost use Rattle.kinds.specs.Decimal.{plain, number};
 ghost use Rattle.model.specs.Layout.{littleEndian};
 ghost use Rattle.model.specs.Text.{span, one, tails, scalar, validLength, isBlank, blank, skip, peek, wordLength, runByte, runLength};
 ghost use Rattle.model.specs.KindText.{starts};
-ghost use Rattle.text.specs.Found.{isAlphabetic, flags, Begun, tailOf, codeOf, charFrom, CharIs, Skipped, toOption, Pushed, DigitIs};
+ghost use Rattle.text.specs.Found.{isAlphabetic, isPlain, isStop, flags, Begun, Runs, tailOf, codeOf, charFrom, CharIs, Skipped, toOption, Pushed, DigitIs};
 
 // 0-9
 pub fn is_digit(c: u8) -> bool
@@ -73,17 +74,25 @@ pub fn digits(t: &[u8]) -> usize
 // The bit of 128 of each of eight bytes that is none of a-z, A-Z: it has that bit itself or, without it and with the bit of 32, is below 97 or
 // above 122.
 pub fn others(v: u64) -> u64
-    ensures { λ r. ⌜ r ≡ flags (littleEndian 8 v) ⌝ }
+    ensures { λ r. ⌜ r ≡ flags isAlphabetic (littleEndian 8 v) ⌝ }
 {
     let u = v & 0x7F7F7F7F7F7F7F7F | 0x2020202020202020;
     (v | (u + 0x0505050505050505) | (0xE0E0E0E0E0E0E0E0 - u)) & 0x8080808080808080
 }
 
-// How many of a-z, A-Z eight bytes begin with.
-fn lead(v: u64) -> usize
-    ensures { λ r. ⌜ (r ≡ span (one isAlphabetic) (littleEndian 8 v)) × (r ≤ 8) ⌝ }
+// How many of eight bytes come before the first whose bit of 128 is set.
+fn lead(f: u64) -> usize
+    ensures { λ r. ⌜ (r ≡ trailingZeros 64 f / 8) × (r ≤ 8) ⌝ }
 {
-    (u64::trailing_zeros(others(v)) / 8) as usize
+    (u64::trailing_zeros(f) / 8) as usize
+}
+
+// How many of a-z, A-Z eight bytes begin with.
+fn letters(t: &[u8], at: usize) -> usize
+    requires { ⌜ at + 8 ≤ length (now t) ⌝ }
+    ensures { λ r. ⌜ (r ≡ span (one isAlphabetic) (take 8 (drop at (now (t .entry))))) × (r ≤ 8) ⌝ }
+{
+    lead(others(layout::get8(t, at)))
 }
 
 // How long the word is that a part begins with, of which c bytes are gone over.
@@ -119,7 +128,7 @@ pub fn word(t: &[u8]) -> usize
     ensures { λ r. ⌜ (r ≡ wordLength (now (t .entry))) × (r ≤ length (now (t .entry))) ⌝ }
 {
     if 8 <= t.len() {
-        let c = lead(layout::get8(t, 0));
+        let c = letters(t, 0);
         if 0 < c {
             if c < 8 {
                 if is_word_byte(t[c]) {
@@ -128,7 +137,7 @@ pub fn word(t: &[u8]) -> usize
                 return c;
             }
             if 16 <= t.len() {
-                return word_from(t, 8 + lead(layout::get8(t, 8)));
+                return word_from(t, 8 + letters(t, 8));
             }
             return word_from(t, 8);
         }
@@ -402,11 +411,12 @@ fn in_run(t: &[u8], i: usize) -> bool
     blank(&t[i..]) == 0
 }
 
-// How long the run is that a part begins with: up to a blank, `,` or `)`.
-pub fn run(t: &[u8]) -> usize
+// How long the run is that a part begins with, of which c bytes are gone over.
+fn run_from(t: &[u8], c: usize) -> usize
+    requires { ⌜ Runs (now t) c ⌝ }
     ensures { λ r. ⌜ (r ≡ runLength (now (t .entry))) × (r ≤ length (now (t .entry))) ⌝ }
 {
-    let mut i = 0;
+    let mut i = c;
     while i < t.len() {
         if in_run(t, i) {
             i += 1;
@@ -415,6 +425,51 @@ pub fn run(t: &[u8]) -> usize
         }
     }
     i
+}
+
+// The bit of 128 of each of eight bytes that is not plain: ASCII above `,`.
+fn stops(v: u64) -> u64
+    ensures { λ r. ⌜ r ≡ flags isPlain (littleEndian 8 v) ⌝ }
+{
+    let u = v & 0x7F7F7F7F7F7F7F7F;
+    (v | (0xACACACACACACACAC - u)) & 0x8080808080808080
+}
+
+// How many plain bytes eight bytes begin with.
+fn plains(t: &[u8], at: usize) -> usize
+    requires { ⌜ at + 8 ≤ length (now t) ⌝ }
+    ensures { λ r. ⌜ (r ≡ span (one isPlain) (take 8 (drop at (now (t .entry))))) × (r ≤ 8) ⌝ }
+{
+    lead(stops(layout::get8(t, at)))
+}
+
+// The bytes that most runs end at.
+fn is_stop(c: u8) -> bool
+    ensures { λ r. ⌜ r ≡ isStop c ⌝ }
+{
+    if c == 44 {
+        return true;
+    }
+    if c == 41 {
+        return true;
+    }
+    c == 32
+}
+
+// How long the run is that a part begins with: up to a blank, `,` or `)`. Its first eight bytes are taken at once.
+pub fn run(t: &[u8]) -> usize
+    ensures { λ r. ⌜ (r ≡ runLength (now (t .entry))) × (r ≤ length (now (t .entry))) ⌝ }
+{
+    if 8 <= t.len() {
+        let c = plains(t, 0);
+        if c < 8 {
+            if is_stop(t[c]) {
+                return c;
+            }
+        }
+        return run_from(t, c);
+    }
+    run_from(t, 0)
 }
 
 // Numbers.

@@ -2,61 +2,60 @@ use Rattle.declaration.proofs.Parts.{parts}
 use borrow.Author.Needs.{needs}
 use Rattle.declaration.proofs.ident.Statement.{statement}
 use Rattle.declaration.proofs.ident.Tie as tie
-use Rattle.declaration.proofs.ident.Reads as reads
-use Rattle.declaration.proofs.ident.Lts as lts
-use Rattle.fields.proofs.word.Reads as word-reads
-use Rattle.layout.proofs.copy.Reads as copy-reads
-use Rattle.layout.proofs.header.Reads as header-reads
 
--- src/lib.rt:51:9
-word-requires : tie.Need-word-requires
-word-requires c κs = search needs
+-- src/lib.rt:57:9
+skip-requires : tie.Need-skip-requires
+skip-requires c κs = search needs
 
--- src/lib.rt:55:9
+-- src/lib.rt:58:9
+word-end-requires : tie.Need-word-end-requires
+word-end-requires c κs = search needs
+
+-- src/lib.rt:60:9
 returns : tie.Need-returns
 returns c = search (needs, parts)
 
--- src/lib.rt:60:13
+-- src/lib.rt:65:13
 sub-m : tie.Need-sub-m
 sub-m c = search needs
 
--- src/lib.rt:61:28
+-- src/lib.rt:66:28
 add-header : tie.Need-add-header
 add-header c = search needs
 
--- src/lib.rt:61:5
+-- src/lib.rt:66:5
 header-requires : tie.Need-header-requires
 header-requires c κs = search needs
 
--- src/lib.rt:62:23
+-- src/lib.rt:67:23
 add-copy : tie.Need-add-copy
 add-copy c = search needs
 
--- src/lib.rt:62:30
+-- src/lib.rt:67:30
 sub-copy : tie.Need-sub-copy
 sub-copy c = search needs
 
--- src/lib.rt:62:30
+-- src/lib.rt:67:30
 part-copy-start : tie.Need-part-copy-start
 part-copy-start c = search needs
 
--- src/lib.rt:62:30
+-- src/lib.rt:67:30
 part-copy-end : tie.Need-part-copy-end
 part-copy-end c = search needs
 
--- src/lib.rt:62:5
+-- src/lib.rt:67:5
 copy-requires : tie.Need-copy-requires
 copy-requires c κs = search needs
 
--- src/lib.rt:65:14
-add-t14 : tie.Need-add-t14
-add-t14 c = search needs
+-- src/lib.rt:70:14
+add-t13 : tie.Need-add-t13
+add-t13 c = search needs
 
--- src/lib.rt:47:1
+-- src/lib.rt:53:1
 same-length : tie.Need-same-length
 same-length c = search needs
 
--- src/lib.rt:47:1
+-- src/lib.rt:53:1
 returns-2 : tie.Need-returns-2
 returns-2 c = search (needs, parts)
 
@@ -64,7 +63,8 @@ pub ident-spec : {M : Type 1} → statement M
 ident-spec =
     tie.close
     (tie.spec
-    word-requires
+    skip-requires
+    word-end-requires
     returns
     sub-m
     add-header
@@ -74,6 +74,6 @@ ident-spec =
     part-copy-start
     part-copy-end
     copy-requires
-    add-t14
+    add-t13
     same-length
     returns-2)

@@ -1,61 +1,49 @@
-use Rattle.model.specs.Text.{span, runByte}
+use Rattle.text.proofs.Beginnings.{runs-stopped, runs}
 use borrow.Author.Needs.{needs}
-use mathlib.Core.Path.{_≡_}
-use Prim.Native.Nat.{_+_, _-_, _≤_}
-use lib.ListN.{length, drop}
-use Rattle.model.proofs.Scans.{scanning}
-use Rattle.text.proofs.Skipping.{skipping}
-use Rattle.model.specs.Text.{span, runByte, runLength}
 use Rattle.text.proofs.run.Statement.{statement}
 use Rattle.text.proofs.run.Tie as tie
-use Rattle.text.proofs.run.Reads as reads
-use Rattle.text.proofs.run.Lts as lts
-use Rattle.text.proofs.in_run.Reads as in-run-reads
 
-abbrev Inv-loop : tie.InvT-loop
-Inv-loop t i₀ i = (i ≤ length t) × (i + span runByte (drop i t) ≡ runLength t)
+-- src/lib.rt:464:13
+plains-requires : tie.Need-plains-requires
+plains-requires c κs = search needs
 
-abbrev μ-loop : tie.MeasureT-loop
-μ-loop t i₀ i = length t - i
+-- src/lib.rt:466:24
+shared-slice-read-is-stop : tie.Need-shared-slice-read-is-stop
+shared-slice-read-is-stop c = search needs
 
--- src/lib.rt:334:5
-loop-holds : tie.Need-loop-holds Inv-loop μ-loop
-loop-holds c = search (needs, scanning, skipping)
+-- src/lib.rt:466:16
+is-stop-requires : tie.Need-is-stop-requires
+is-stop-requires c κs = search needs
 
--- src/lib.rt:335:12
-in-run-requires : tie.Need-in-run-requires Inv-loop μ-loop
-in-run-requires c κs = search (needs, scanning, skipping)
+-- src/lib.rt:467:17
+returns : tie.Need-returns
+returns c = (runs-stopped _ _ (c .before .before .before .before .plains .ensures .0) (c .before .before .before .before .plains .ensures .1) (c .before .before .before .before .before .if1 .taken) _ (search needs) (c .before .is-stop .ensures) (c .if3 .taken), search needs)
 
--- src/lib.rt:336:13
-add-i : tie.Need-add-i Inv-loop μ-loop
-add-i c = search (needs, scanning, skipping)
+-- src/lib.rt:470:9
+run-from-requires : tie.Need-run-from-requires
+run-from-requires c κs = search (needs, runs)
 
--- src/lib.rt:334:5
-loop-less : tie.Need-loop-less Inv-loop μ-loop
-loop-less c = search (needs, scanning, skipping)
+-- src/lib.rt:470:9
+returns-2 : tie.Need-returns-2
+returns-2 c = search needs
 
--- src/lib.rt:334:5
-loop-again : tie.Need-loop-again Inv-loop μ-loop
-loop-again c = search (needs, scanning, skipping)
+-- src/lib.rt:472:5
+run-from-requires-2 : tie.Need-run-from-requires-2
+run-from-requires-2 c κs = search (needs, runs)
 
--- src/lib.rt:338:13
-returns : tie.Need-returns Inv-loop μ-loop
-returns c = search (needs, scanning, skipping)
-
--- src/lib.rt:330:1
-returns-2 : tie.Need-returns-2 Inv-loop μ-loop
-returns-2 c = search (needs, scanning, skipping)
+-- src/lib.rt:460:1
+returns-3 : tie.Need-returns-3
+returns-3 c = search needs
 
 pub run-spec : {M : Type 1} → statement M
 run-spec =
     tie.close
     (tie.spec
-    Inv-loop
-    μ-loop
-    loop-holds
-    in-run-requires
-    add-i
-    loop-less
-    loop-again
+    plains-requires
+    shared-slice-read-is-stop
+    is-stop-requires
     returns
-    returns-2)
+    run-from-requires
+    returns-2
+    run-from-requires-2
+    returns-3)

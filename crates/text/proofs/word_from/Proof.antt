@@ -3,7 +3,7 @@ use Prim.Native.Nat.{_-_}
 use lib.ListN.{length}
 use Rattle.model.proofs.Scans.{scanning}
 use Rattle.text.specs.Found.{Begun}
-use Rattle.text.proofs.Eights.{beginnings}
+use Rattle.text.proofs.Beginnings.{beginnings}
 use Rattle.text.proofs.word_from.Statement.{statement}
 use Rattle.text.proofs.word_from.Tie as tie
 use Rattle.text.proofs.word_from.Reads as reads

@@ -1,5 +1,5 @@
 use Rattle.model.proofs.Scans.{scanning}
-use Rattle.text.proofs.Eights.{beginnings}
+use Rattle.text.proofs.Beginnings.{beginnings}
 use borrow.Author.Needs.{needs}
 use Rattle.text.proofs.word_slowly.Statement.{statement}
 use Rattle.text.proofs.word_slowly.Tie as tie
