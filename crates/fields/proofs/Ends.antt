@@ -65,11 +65,11 @@ module _ (s : List ℕ) (at p b : ℕ) (v : Looked s at p b) where
 
   pub close-eos : (b ≡ 41 → ⊥) → b ≡ 256 → Closes s at (Bad Eos p)
   unfolding toRead onAns closing
-  close-eos n e = record { same = rw (closing, take-eos rparen ExpectClose n e); within = tt }
+  close-eos n e = record { same = rw (closing, take-eos rparen ExpectClose n e); within = v .inside }
 
   pub close-bad : (b ≡ 41 → ⊥) → (b ≡ 256 → ⊥) → Closes s at (Bad ExpectClose p)
   unfolding toRead onAns closing
-  close-bad n m = record { same = rw (closing, take-bad rparen ExpectClose n m); within = tt }
+  close-bad n m = record { same = rw (closing, take-bad rparen ExpectClose n m); within = v .inside }
 
   -- a suffix
   behind-up : (r : Bracket) → Behind s (p + 1) r → Behind s (at + 1) r

@@ -78,13 +78,13 @@ module _ {A : Type 0} (f : A → List ℕ) where
 -- where answers lie
 within-up : (k : ℕ) (s : List ℕ) (at p : ℕ) (r : Read) → Within k s p r → at ≤ p → Within k s at r
 within-up k s at p (Got n l) w h = omega arith
-within-up k s at p (Bad x n) w h = tt
-within-up k s at p (Deep n) w h = tt
+within-up k s at p (Bad x n) w h = w
+within-up k s at p (Deep n) w h = w
 
 within-longer : (s : List ℕ) (at q n : ℕ) (r : Read) → Within 10 s q r → at ≤ q → n + 10 * at ≤ 10 * q → Within 10 s at (longerBy n r)
 within-longer s at q n (Got m l) w h i = omega arith
-within-longer s at q n (Bad y m) w h i = tt
-within-longer s at q n (Deep m) w h i = tt
+within-longer s at q n (Bad y m) w h i = w
+within-longer s at q n (Deep m) w h i = w
 
 short : (s : List ℕ) (at n : ℕ) (r : Read) → Within 10 s at r → length s ≤ 4096 → n ≤ 65536 → Short n r
 short s at n (Got m l) w h i = omega arith
@@ -92,13 +92,13 @@ short s at n (Bad y m) w h i = tt
 short s at n (Deep m) w h i = tt
 
 -- a refusal, of which nothing is told but what stands before o
-refused-bad : (k : ℕ) (s : List ℕ) (at o m : ℕ) (b₀ b u : List ℕ) (w : Refusal) (p : ℕ) → Wrote m b₀ b u → o ≤ m → Put k s at o b₀ b (bad w p) (Bad w p)
+refused-bad : (k : ℕ) (s : List ℕ) (at o m : ℕ) (b₀ b u : List ℕ) (w : Refusal) (p : ℕ) → p ≤ length s → Wrote m b₀ b u → o ≤ m → Put k s at o b₀ b (bad w p) (Bad w p)
 unfolding toRead bytesOf
-refused-bad k s at o m b₀ b u w p i h = record { same = refl; within = tt; wrote = wrote-less o m b₀ b u i h }
+refused-bad k s at o m b₀ b u w p l i h = record { same = refl; within = l; wrote = wrote-less o m b₀ b u i h }
 
-refused-deep : (k : ℕ) (s : List ℕ) (at o m : ℕ) (b₀ b u : List ℕ) (p : ℕ) → Wrote m b₀ b u → o ≤ m → Put k s at o b₀ b (deep p) (Deep p)
+refused-deep : (k : ℕ) (s : List ℕ) (at o m : ℕ) (b₀ b u : List ℕ) (p : ℕ) → p ≤ length s → Wrote m b₀ b u → o ≤ m → Put k s at o b₀ b (deep p) (Deep p)
 unfolding toRead bytesOf
-refused-deep k s at o m b₀ b u p i h = record { same = refl; within = tt; wrote = wrote-less o m b₀ b u i h }
+refused-deep k s at o m b₀ b u p l i h = record { same = refl; within = l; wrote = wrote-less o m b₀ b u i h }
 
 -- a tuple kind admits data locations
 of-tuple : (fs : Fields) (ss : List Suffix) → canSpecifyLocation (tuple fs) ss ≡ true
@@ -160,16 +160,16 @@ module _ (s : List ℕ) (sort : Sort) (d at p b o : ℕ) (v : Looked s at p b) w
 
     pub field-bad : (w : Refusal) (q : ℕ) → f ≡ Bad w q → Put 0 s at o b₀ b₁ (fieldOf sort d s at) (Bad w q)
     unfolding then onAns
-    field-bad w q e = rw (eq-nested g, of-bad kindBytes (tupleKind d s p) w q (is-bad (tupleOf d s p) w q (sym e ∙ i .same))) (refused-bad 0 s at o (o + 14) b₀ b₁ _ w q (i .wrote) (omega arith))
+    field-bad w q e = rw (eq-nested g, of-bad kindBytes (tupleKind d s p) w q (is-bad (tupleOf d s p) w q (sym e ∙ i .same))) (refused-bad 0 s at o (o + 14) b₀ b₁ _ w q (rw e at (i .within)) (i .wrote) (omega arith))
 
     pub field-deep : (q : ℕ) → f ≡ Deep q → Put 0 s at o b₀ b₁ (fieldOf sort d s at) (Deep q)
     unfolding then onAns
-    field-deep q e = rw (eq-nested g, of-deep kindBytes (tupleKind d s p) q (is-deep (tupleOf d s p) q (sym e ∙ i .same))) (refused-deep 0 s at o (o + 14) b₀ b₁ _ q (i .wrote) (omega arith))
+    field-deep q e = rw (eq-nested g, of-deep kindBytes (tupleKind d s p) q (is-deep (tupleOf d s p) q (sym e ∙ i .same))) (refused-deep 0 s at o (o + 14) b₀ b₁ _ q (rw e at (i .within)) (i .wrote) (omega arith))
 
 -- a tuple
-pub tuple-none : (s : List ℕ) (p d o : ℕ) (b : List ℕ) → d ≡ 0 → Put 14 s p o b b (tupleOf d s p) (Deep p)
+pub tuple-none : (s : List ℕ) (p d o : ℕ) (b : List ℕ) → p < length s → d ≡ 0 → Put 14 s p o b b (tupleOf d s p) (Deep p)
 unfolding tupleKind onAns
-tuple-none s p d o b z = rw z (refused-deep 14 s p o o b b [] p (wrote-none o b) (omega arith))
+tuple-none s p d o b l z = rw z (refused-deep 14 s p o o b b [] p (omega arith) (wrote-none o b) (omega arith))
 
 -- what the fields of a tuple give
 module _ (d : ℕ) (s : List ℕ) (p : ℕ) (n : d ≡ 0 → ⊥) where
@@ -187,11 +187,11 @@ module _ (d : ℕ) (s : List ℕ) (p : ℕ) (n : d ≡ 0 → ⊥) where
   module _ (o : ℕ) (b₀ b₁ : List ℕ) (f : Read) (h : Room 14 d s p o b₀) (i : Put 10 s (p + 1) (o + 6) b₀ b₁ (listOf Plain (d - 1) s (p + 1)) f) where
     pub tuple-bad : (w : Refusal) (q : ℕ) → f ≡ Bad w q → Put 14 s p o b₀ b₁ (tupleOf d s p) (Bad w q)
     unfolding then onAns fieldsOf
-    tuple-bad w q e = rw (eq-tuple, of-bad (encodeFields 4) fieldsOf w q (is-bad (listOf Plain (d - 1) s (p + 1)) w q (sym e ∙ i .same))) (refused-bad 14 s p o (o + 6) b₀ b₁ _ w q (i .wrote) (omega arith))
+    tuple-bad w q e = rw (eq-tuple, of-bad (encodeFields 4) fieldsOf w q (is-bad (listOf Plain (d - 1) s (p + 1)) w q (sym e ∙ i .same))) (refused-bad 14 s p o (o + 6) b₀ b₁ _ w q (rw e at (i .within)) (i .wrote) (omega arith))
 
     pub tuple-deep : (q : ℕ) → f ≡ Deep q → Put 14 s p o b₀ b₁ (tupleOf d s p) (Deep q)
     unfolding then onAns fieldsOf
-    tuple-deep q e = rw (eq-tuple, of-deep (encodeFields 4) fieldsOf q (is-deep (listOf Plain (d - 1) s (p + 1)) q (sym e ∙ i .same))) (refused-deep 14 s p o (o + 6) b₀ b₁ _ q (i .wrote) (omega arith))
+    tuple-deep q e = rw (eq-tuple, of-deep (encodeFields 4) fieldsOf q (is-deep (listOf Plain (d - 1) s (p + 1)) q (sym e ∙ i .same))) (refused-deep 14 s p o (o + 6) b₀ b₁ _ q (rw e at (i .within)) (i .wrote) (omega arith))
 
     module _ (m l : ℕ) (e : f ≡ Got m l) where
       paid : (p + 1 < m) × (m ≤ length s) × (l + 10 + 10 * (p + 1) ≤ 10 * m)
@@ -277,10 +277,10 @@ then-put s at q o m l b₀ b₁ b₂ u r (got v n) w x y i h k =
     }
 then-put s at q o m l b₀ b₁ b₂ u r (bad z n) w x y i h k =
     let e : r ≡ Bad z n = i .same in
-    rw e (record { same = refl; within = tt; wrote = wrote-lost o m b₀ b₁ b₂ u [] w (i .wrote) (omega arith) })
+    rw e (record { same = refl; within = rw e at (i .within); wrote = wrote-lost o m b₀ b₁ b₂ u [] w (i .wrote) (omega arith) })
 then-put s at q o m l b₀ b₁ b₂ u r (deep n) w x y i h k =
     let e : r ≡ Deep n = i .same in
-    rw e (record { same = refl; within = tt; wrote = wrote-lost o m b₀ b₁ b₂ u [] w (i .wrote) (omega arith) })
+    rw e (record { same = refl; within = rw e at (i .within); wrote = wrote-lost o m b₀ b₁ b₂ u [] w (i .wrote) (omega arith) })
 
 -- the end of a list is read where nothing is written
 put-closing : (s : List ℕ) (at o : ℕ) (b₀ b u : List ℕ) (r : Read) → Wrote o b₀ b u → Closes s at r → Put 10 s at o b₀ b (onAns (encodeFields 4) (closing s at)) r
@@ -290,6 +290,9 @@ put-closing s at o b₀ b u r w c = record { same = c .same; within = c .within;
 module _ (s : List ℕ) (sort : Sort) (d from end o : ℕ) (b₀ b₁ : List ℕ) (f : Read) (h : end ≤ from) (i : Put 0 s from o b₀ b₁ (fieldOf sort d s from) f) where
   abbrev F : Parser Field
   F = fieldBy sort (tupleKind d)
+
+  pub item-place : (w : Refusal) (q : ℕ) → f ≡ Bad w q → q ≤ length s
+  item-place w q e = rw e at (i .within)
 
   module _ (n l : ℕ) (e : f ≡ Got n l) where
     pub item-paid : (from < n) × (n ≤ length s) × (l + 0 + 10 * from ≤ 10 * n)
@@ -343,7 +346,7 @@ module _ (s : List ℕ) (sort : Sort) (d from end o : ℕ) (b₀ b₁ : List ℕ
   item-deep p e = record {
     a = deep p;
     step = λ k. follow-deep (rest F k s) s end (F s from) p (is-deep (fieldOf sort d s from) p (sym e ∙ i .same));
-    put = refused-deep 10 s end o o b₀ b₁ _ p (i .wrote) (omega arith);
+    put = refused-deep 10 s end o o b₀ b₁ _ p (rw e at (i .within)) (i .wrote) (omega arith);
   }
 
 pub short-close : (s : List ℕ) (at n : ℕ) (r : Read) → Closes s at r → length s ≤ 4096 → n ≤ 65536 → Short n r
@@ -442,4 +445,4 @@ module _ (s : List ℕ) (sort : Sort) (d at o : ℕ) (b₀ : List ℕ) (from end
     pub so-closed : Put 10 s at o b₀ b₂ (listOf sort d s at) (Got n (len + l))
     so-closed = ended (Got n l) (Got n (len + l)) closed (ap (Got n) (omega arith))
 
-pub ruleset family = (so-closed-fits, so-closed, item-closed, field-leaf, named-room, field-named, field-bad, field-deep, tuple-none, tuple-bad, tuple-deep, tuple-room, suffix-room, tuple-got, item-more, item-last, item-none, item-deep, so-start, so-more, so-less, so-fits, so-short, so-last)
+pub ruleset family = (item-place, so-closed-fits, so-closed, item-closed, field-leaf, named-room, field-named, field-bad, field-deep, tuple-none, tuple-bad, tuple-deep, tuple-room, suffix-room, tuple-got, item-more, item-last, item-none, item-deep, so-start, so-more, so-less, so-fits, so-short, so-last)

@@ -124,12 +124,12 @@ module _ (s : List ℕ) (p r : ℕ) (e : r ≡ runLength (take (length s - p) (d
   run-bad w f = let g : fromStr (part s p r) ≡ err w = ap fromStr (sym part-of) ∙ f in rw (runKind, run-is, g)
 
 -- a leaf that is no kind
-pub leaf-bad : (s : List ℕ) (p r o : ℕ) (sort : Sort) (b : List ℕ) (k : RunKind) (w : Refusal) → r ≡ runLength (take (length s - p) (drop p s)) → RunIs (take (p + r - p) (drop p s)) k → k ≡ run.Refused w
+pub leaf-bad : (s : List ℕ) (p r o : ℕ) (sort : Sort) (b : List ℕ) (k : RunKind) (w : Refusal) → p ≤ length s → r ≡ runLength (take (length s - p) (drop p s)) → RunIs (take (p + r - p) (drop p s)) k → k ≡ run.Refused w
     → Put 0 s p o b b (leafOf sort s p) (Bad w p)
 unfolding leafOf toRead bytesOf then onAns
-leaf-bad s p r o sort b k w e i j =
+leaf-bad s p r o sort b k w l e i j =
     let f : fromStr (take (p + r - p) (drop p s)) ≡ err w = subst (RunIs (take (p + r - p) (drop p s))) j i in
-    rw (leafOf, run-bad s p r e w f) (record { same = refl; within = tt; wrote = wrote-none o b })
+    rw (leafOf, run-bad s p r e w f) (record { same = refl; within = l; wrote = wrote-none o b })
 
 -- a leaf that is read
 module _ (s : List ℕ) (p r o : ℕ) (sort : Sort) (b : List ℕ) (k : RunKind) (x : Base) (from len : ℕ) (h : Room 0 0 s p o b)

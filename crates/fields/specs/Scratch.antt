@@ -40,8 +40,8 @@ bytesOf (deep p) = []
 -- definitions, and is there for `omega` to find
 abbrev pub Within : ℕ → List ℕ → ℕ → Read → Type 0
 Within k s at (Got n l) = (at < n) × (n ≤ length s) × (l + k + 10 * at ≤ 10 * n)
-Within k s at (Bad w p) = Unit {0}
-Within k s at (Deep p) = Unit {0}
+Within k s at (Bad w p) = p ≤ length s
+Within k s at (Deep p) = p ≤ length s
 
 -- the end of a list, of which there is no record
 pub record Closes (s : List ℕ) (at : ℕ) (r : Read) : Type 0 where

@@ -136,7 +136,7 @@ pub +field+list+step+tuple-spec : {M : Type 1} → statement M
     (λ c κs. search needs)  -- step-close-requires
     (λ c κs. let w = rw (c .before .before .before .before .before .before .before .f .given .1) at (c .before .before .before .before .before .before .before .before .before .before .before .field .ensures .within) in short-close _ _ _ _ (c .close .ensures) (search needs) (search needs))  -- step-longer-requires
     (λ c. search needs)  -- step-enum-told
-    (λ c κs. search needs)  -- step-close-requires-2
+    (λ c κs. search (needs, family))  -- step-close-requires-2
     (λ c. search needs)  -- step-enum-told-2
     (λ c. search needs)  -- step-same-length-3
     (λ c. search (needs, family))  -- step-returns-3
