@@ -1,8 +1,8 @@
 -- The calls, by what the check of the record found.
 -- Assumes nothing.
-use mathlib.Core.Path.{_≡_, refl, sym, _∙_, ap, subst}
+use mathlib.Core.Path.{_≡_, refl, ap, subst}
 use mathlib.Core.List.{List}
-use mathlib.Core.Option.{Option, none, some}
+use mathlib.Core.Option.{none, some}
 use Prim.Native.Nat.{ℕ, _≤_}
 use native.Mathlib.Omega.{arith}
 use lib.Dec.{leb}
@@ -17,9 +17,9 @@ use Rattle.model.specs.declared.Refusal.the-variants.{NotWellFormed, WrongSort}
 use Rattle.model.specs.declared.Answer.{Answer}
 use Rattle.model.specs.declared.Answer.the-variants.{Refused}
 use Rattle.model.specs.Tree.{kindsOf, Declaration, nameKinds}
-use Rattle.model.specs.Record.{when, longestRecord, decode, decodeLone}
+use Rattle.model.specs.Record.{longestRecord, decode, decodeLone}
 use Rattle.model.specs.Line.{canonicalText, signatureText, fieldText, nameOf, fieldName}
-use Rattle.model.specs.Answer.{Output, writes, refuses, refusalNumber, handed, number}
+use Rattle.model.specs.Answer.{writes, refuses, refusalNumber, handed, number}
 use Rattle.model.specs.Calls.{orWrongSort, ofRecord, canonicalOutput, signatureOutput, kindTextOutput, nameOutput}
 use Rattle.model.proofs.Decoding.{when-some}
 use Rattle.layout.proofs.Answers.{Ends, ends-refused}

@@ -1,13 +1,13 @@
 -- Elementary kinds and suffixes written: what the room asked for is, and what is left.
 -- Assumes nothing.
 use mathlib.Core.Path.{_≡_, refl, sym, _∙_, ap}
-use mathlib.Core.Bool.{Bool, true, false, _&&_, and-eq-true-iff}
-use mathlib.Core.List.{List, [], _∷_, _++_, append-assoc}
+use mathlib.Core.Bool.{Bool, true, false}
+use mathlib.Core.List.{List, [], _∷_, _++_}
 use mathlib.Core.Option.{Option, none, some, Option·none-ne-some, Option·some-injective}
-use Prim.Native.Nat.{ℕ, zero, suc, _+_, _*_, _-_, _≤_, _<_}
+use Prim.Native.Nat.{ℕ, _+_, _≤_, _<_}
 use native.Mathlib.Omega.{arith}
 use lib.Dec.{leb, eqb}
-use lib.ListN.{length, take, drop, set, length-append, length-set, length-drop}
+use lib.ListN.{length, take, drop, set, length-append, length-set}
 use lib.Seq.{take-all}
 use borrow.Author.Tests.{leb-true, eq-eqb, eqb-true, eqb-false}
 use Rattle.kinds.specs.Bytes.{ascii, between}
@@ -15,7 +15,7 @@ use Rattle.kinds.specs.Decimal.{decimal}
 use Rattle.kinds.specs.Kind.{bits, octets, isBitWidth, isByteLength, Elementary, int, uint, fixedBytes, address, bool, bytes, string, elementaryText, Suffix, sized, unsized, suffixText}
 use Rattle.kinds.proofs.Logic.{left, right}
 use Rattle.model.specs.Layout.{leValue}
-use Rattle.model.specs.Record.{onOption, when, ended, wholly, elementaryCases, suffixCases, decodeElementary, decodeSuffix}
+use Rattle.model.specs.Record.{onOption, when, ended, wholly, suffixCases, decodeElementary, decodeSuffix}
 use Rattle.model.proofs.Decoding.{when-some, ended-some, select-other}
 use Rattle.layout.specs.Buffer.{put}
 use Rattle.layout.proofs.Puts.{put-then, length-put}

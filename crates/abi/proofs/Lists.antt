@@ -14,14 +14,14 @@ use Rattle.model.specs.Tree.{Fields, noField, moreFields, kindOf, kindsOf}
 use Rattle.model.specs.Layout.{leValue}
 use Rattle.model.specs.Record.{onOption}
 use Rattle.layout.specs.Buffer.{put}
-use Rattle.layout.proofs.Puts.{put-then, length-put}
+use Rattle.layout.proofs.Puts.{put-then}
 use Rattle.record.specs.Texts.{fieldTextFrom, fieldsFrom, tupleTextFrom}
-use Rattle.record.proofs.Equations.{kind-full, fieldsIn, parted, field-steps}
+use Rattle.record.proofs.Equations.{kind-full, fieldsIn, field-steps}
 use Rattle.record.proofs.Walk.{rest-length, body-length}
 use Rattle.abi.specs.Writes.{Room, Wrote, FieldRoom, FieldWrote, FieldsRoom, FieldsWrote}
 use Rattle.abi.proofs.Stores.{put-none, store-1, store-2}
 use Rattle.abi.proofs.Leaves.{wrote-text}
-use Rattle.abi.proofs.Runs.{Stepped, Run, run-start, run-end, run-first, run-least, run-room, run-low, run-inside, run-item, run-next}
+use Rattle.abi.proofs.Runs.{Run, run-start, run-end, run-first, run-least, run-room, run-low, run-inside, run-item, run-next}
 use Rattle.abi.proofs.Nested.{field-kind}
 
 -- u is t in brackets

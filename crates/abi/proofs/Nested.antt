@@ -1,32 +1,27 @@
 -- Kinds, fields and lists written: what each asks of the next, and what is left.
 -- Assumes nothing.
 use mathlib.Core.Path.{_≡_, refl, sym, _∙_, ap}
-use mathlib.Core.List.{List, [], _∷_, _++_}
-use mathlib.Core.Option.{Option, none, some, Option·none-ne-some, Option·some-injective}
-use Prim.Native.Nat.{ℕ, zero, suc, _+_, _*_, _-_, _≤_, _<_}
+use mathlib.Core.List.{List, _++_}
+use mathlib.Core.Option.{Option, some, Option·none-ne-some}
+use Prim.Native.Nat.{ℕ, zero, suc, _+_, _-_, _≤_, _<_}
 use native.Mathlib.Omega.{arith}
-use lib.ListN.{length, take, drop, set, length-append, length-set, length-drop}
-use lib.Seq.{set-at, length-take-le}
-use Rattle.kinds.specs.Bytes.{lparen, rparen, comma}
+use lib.ListN.{length, take, drop, length-append}
 use Rattle.kinds.specs.Kind.{tuple, kindText, restText}
 use Rattle.model.specs.declared.Sort.{Sort}
 use Rattle.model.specs.declared.Sort.the-variants.{Plain}
 use Rattle.model.specs.Tree.{Fields, noField, moreFields, kindOf, kindsOf}
-use Rattle.model.specs.Layout.{leValue, pieceOf}
-use Rattle.model.specs.Record.{given, onOption, baseFrom, fieldFrom, tupleFrom}
+use Rattle.model.specs.Layout.{leValue}
+use Rattle.model.specs.Record.{baseFrom, fieldFrom, tupleFrom}
 use Rattle.model.specs.Line.{fieldText}
 use Rattle.model.proofs.Decoding.{given-some, on-some}
 use Rattle.model.proofs.Scans.{part-rest}
-use Rattle.layout.specs.Buffer.{put}
 use Rattle.layout.proofs.Puts.{put-then, length-put}
 use Rattle.record.specs.Texts.{elementaryFrom, suffixesFrom, baseTextFrom, kindFrom, fieldTextFrom, fieldsFrom, tupleTextFrom}
-use Rattle.record.proofs.Equations.{kind-full, fieldsIn, field-steps, base-deep, base-tuple, base-elementary}
-use Rattle.record.proofs.There.{piece-there, nameEnd, FieldThere, field-there}
+use Rattle.record.proofs.Equations.{kind-full, base-deep, base-tuple, base-elementary}
+use Rattle.record.proofs.There.{piece-there, nameEnd, field-there}
 use Rattle.record.proofs.Walk.{body-length}
 use Rattle.abi.specs.Writes.{Room, Wrote, KindRoom, KindWrote, FieldRoom, FieldWrote, FieldsRoom, FieldsWrote}
-use Rattle.abi.proofs.Stores.{put-none, store-1, store-2}
 use Rattle.abi.proofs.Leaves.{wrote-text, room-text}
-use Rattle.abi.proofs.Runs.{Stepped, Run, run-start, run-end, run-first, run-least, run-room, run-low, run-inside, run-item, run-next}
 
 -- one text behind the other
 module _ (t u v : Option (List ℕ)) (x y : List ℕ) (e : u ≡ some x) (f : v ≡ some y) (g : t ≡ some (x ++ y)) (o : ℕ) (b : List ℕ) (h : Room t o b) where

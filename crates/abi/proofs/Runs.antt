@@ -1,15 +1,14 @@
 -- Records one behind the other whose text there is: the first of them, and the suffixes written.
 -- Assumes nothing.
 use mathlib.Core.Path.{_≡_, refl, sym, _∙_, ap}
-use mathlib.Core.List.{List, [], _∷_, _++_, append-assoc, append-nil}
-use mathlib.Core.Option.{Option, none, some, Option·some-injective}
-use Prim.Native.Nat.{ℕ, zero, suc, _+_, _*_, _-_, _≤_, _<_}
+use mathlib.Core.List.{List, [], _++_, append-assoc, append-nil}
+use mathlib.Core.Option.{Option, some, Option·some-injective}
+use Prim.Native.Nat.{ℕ, zero, suc, _+_, _-_, _≤_, _<_}
 use native.Mathlib.Omega.{arith}
 use native.Mathlib.Numerals.{sub-one}
 use lib.ListN.{length, take, drop, length-append, length-drop, drop-of-length-le}
 use lib.Seq.{drop-drop}
-use Rattle.model.specs.Layout.{leValue, pieceOf}
-use Rattle.model.specs.Record.{given, onOption}
+use Rattle.model.specs.Layout.{leValue}
 use Rattle.model.proofs.Decoding.{given-some, on-some}
 use Rattle.model.proofs.Scans.{part-rest}
 use Rattle.layout.specs.Buffer.{put}

@@ -1,34 +1,32 @@
 -- Lines written of a record that was checked.
 -- Assumes nothing.
 use mathlib.Core.Path.{_≡_, refl, sym, _∙_, ap}
-use mathlib.Core.List.{List, [], _∷_, _++_, append-assoc}
-use mathlib.Core.Option.{Option, none, some, Option·some-injective}
-use Prim.Native.Nat.{ℕ, _+_, _*_, _-_, _≤_, _<_}
+use mathlib.Core.List.{List, _++_}
+use mathlib.Core.Option.{some}
+use Prim.Native.Nat.{ℕ, _+_, _-_, _≤_, _<_}
 use native.Mathlib.Omega.{arith}
 use native.Mathlib.Nat.{zero-add}
 use lib.ListN.{length, take, drop, set, length-append, length-drop, length-set}
 use lib.Seq.{length-take-le}
 use Rattle.kinds.specs.Bytes.{ascii}
 use Rattle.kinds.specs.Kind.{Kind, kindText}
-use Rattle.model.specs.declared.Sort.{Sort}
 use Rattle.model.specs.declared.Refusal.the-variants.{NoRoom}
 use Rattle.model.specs.declared.Answer.{Answer}
 use Rattle.model.specs.declared.Answer.the-variants.{Accepted, Refused}
-use Rattle.model.specs.Tree.{Fields, kindsOf}
+use Rattle.model.specs.Tree.{kindsOf}
 use Rattle.model.specs.Reading.{deepest}
-use Rattle.model.specs.Record.{onOption, decodeFields, longestRecord}
+use Rattle.model.specs.Record.{onOption}
 use Rattle.model.specs.Line.{fieldText}
 use Rattle.model.specs.Answer.{writes}
 use Rattle.model.proofs.Decoding.{on-some}
 use Rattle.layout.specs.Buffer.{put}
 use Rattle.layout.proofs.Puts.{put-then, length-put}
-use Rattle.layout.proofs.Answers.{Ends, ends-full, ends-written}
+use Rattle.layout.proofs.Answers.{ends-full, ends-written}
 use Rattle.record.specs.declared.Spot.{Spot}
 use Rattle.record.specs.declared.Measured.{Measured}
 use Rattle.record.specs.Texts.{kindFrom, tupleTextFrom}
-use Rattle.record.specs.Says.{NameSaid, ListSaid, KindSaid}
 use Rattle.record.proofs.Tops.{fields-decode}
-use Rattle.abi.specs.Writes.{Room, Wrote, KindRoom, KindWrote, FieldsRoom, FieldsWrote}
+use Rattle.abi.specs.Writes.{Room, KindRoom, KindWrote, FieldsRoom, FieldsWrote}
 use Rattle.abi.specs.Lines.{LineRoom, lineFrom, LineWrote, Lined, lineOf, LineEnds, Signed, signatureOf, SignatureEnds, Kinded, KindEnds}
 use Rattle.abi.proofs.Leaves.{wrote-text}
 use Rattle.abi.proofs.Nested.{kind-there, brackets-long}

@@ -3,7 +3,7 @@
 use mathlib.Core.Path.{_≡_}
 use mathlib.Core.List.{List}
 use mathlib.Core.Option.{Option, some}
-use Prim.Native.Nat.{ℕ, _+_, _-_, _≤_, _<_}
+use Prim.Native.Nat.{ℕ, _+_, _≤_}
 use lib.ListN.{length, take, drop}
 use Rattle.model.specs.declared.Sort.{Sort}
 use Rattle.model.specs.Layout.{leValue}

@@ -1,12 +1,11 @@
 -- The five calls, by how they end.
 -- Assumes nothing.
-use mathlib.Core.Path.{_≡_, refl, sym, _∙_, ap, subst}
+use mathlib.Core.Path.{_≡_, sym, _∙_, ap}
 use mathlib.Core.Bool.{Bool, true, false}
-use mathlib.Core.List.{List, [], _++_}
-use Prim.Native.Nat.{ℕ, _+_, _*_, _-_, _≤_, _<_}
+use mathlib.Core.List.{List}
+use Prim.Native.Nat.{ℕ, _-_, _≤_, _<_}
 use native.Mathlib.Omega.{arith}
 use native.Mathlib.Nat.{zero-add, sub-zero}
-use lib.Dec.{ltb}
 use lib.ListN.{length, take, drop, length-take}
 use borrow.Author.Tests.{lt-ltb, le-ltb}
 use Rattle.kinds.specs.Bytes.{ascii}
@@ -16,17 +15,15 @@ use Rattle.model.specs.declared.Answer.{Answer}
 use Rattle.model.specs.declared.Answer.the-variants.{Accepted, Refused}
 use Rattle.model.specs.declared.Keyword.{Keyword}
 use Rattle.model.specs.declared.Keyword.the-variants as key
-use Rattle.model.specs.declared.Call.{Call}
 use Rattle.model.specs.declared.Call.the-variants as call
 use Rattle.model.specs.Text.{validLength}
-use Rattle.model.specs.Tree.{Declaration}
 use Rattle.model.specs.KindText.{starts}
-use Rattle.model.specs.Parser.{Ans, got, bad, deep, onAns}
+use Rattle.model.specs.Parser.{Ans, bad, onAns}
 use Rattle.model.specs.Reading.{keywordText, exec, parserOf, wanted, readDeclaration, admit, parse}
 use Rattle.model.specs.Record.{encode}
-use Rattle.model.specs.Answer.{Output, writes, refuses, said, outcome, after}
+use Rattle.model.specs.Answer.{Output, writes, said, outcome, after}
 use Rattle.model.specs.Calls.{written, readOutput}
-use Rattle.layout.specs.Buffer.{put, Wrote}
+use Rattle.layout.specs.Buffer.{put}
 use Rattle.layout.proofs.Answers.{Ends, ends-refused, ends-full, ends-written}
 use Rattle.fields.specs.declared.Read.{Read}
 use Rattle.fields.specs.declared.Read.the-variants.{Got, Bad, Deep}

@@ -1,9 +1,8 @@
 -- A declaration from its stages: one law for each way through.
 -- Assumes nothing.
 use mathlib.Core.Path.{_≡_, refl, sym, _∙_, ap, subst}
-use mathlib.Core.Bool.{Bool, true, false}
 use mathlib.Core.List.{List, [], _∷_, _++_, append-assoc, append-nil}
-use Prim.Native.Nat.{ℕ, _+_, _*_, _-_, _≤_, _<_}
+use Prim.Native.Nat.{ℕ, _+_, _*_, _-_, _≤_}
 use native.Mathlib.Omega.{arith}
 use lib.ListN.{length, take, drop, length-append}
 use Rattle.kinds.specs.Bytes.{ascii}
@@ -12,7 +11,7 @@ use Rattle.model.specs.declared.Keyword.{Keyword}
 use Rattle.model.specs.declared.Keyword.the-variants as key
 use Rattle.model.specs.declared.Sort.{Sort}
 use Rattle.model.specs.Tree.{Fields, Declaration}
-use Rattle.model.specs.KindText.{Entry, entry, lookup}
+use Rattle.model.specs.KindText.{entry, lookup}
 use Rattle.model.specs.Parser.{Ans, got, bad, deep, onAns, then, word, keywordOf, keyword, ident, option, end}
 use Rattle.model.specs.Reading.{fields, returns, mutabilities, keywordText, parserOf, exec}
 use Rattle.model.specs.Reading as reading
@@ -27,8 +26,7 @@ use Rattle.fields.specs.Words.{WordIs}
 use Rattle.fields.specs.Scratch.{toRead, bytesOf, Room}
 use Rattle.fields.proofs.Spots.{word-is, Small, lookup-small, option-none, option-some}
 use Rattle.fields.proofs.Family.{is-got, is-bad, is-deep, of-got, of-bad, of-deep}
-use Rattle.declaration.specs.declared.Stated.{Stated}
-use Rattle.declaration.specs.Stages.{Paid, Did, Behind, Took, keywordIs, identOf, listIn, returnsOf, sortOf, nameOf, wordsOf, absent, statedBy, StatedIs, outputsOf, codeOf, numberOf, frontLength, frontOf, declarationOf, tailOf, TailIs, bodyOf, Whole}
+use Rattle.declaration.specs.Stages.{Did, Took, keywordIs, identOf, listIn, returnsOf, sortOf, nameOf, wordsOf, absent, statedBy, StatedIs, outputsOf, codeOf, numberOf, frontLength, frontOf, declarationOf, tailOf, TailIs, bodyOf, Whole}
 
 -- the word behind the inputs
 words-small : (k : Keyword) (w : List ℕ) → Small (lookup (wordsOf k) w)

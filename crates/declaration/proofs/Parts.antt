@@ -2,14 +2,12 @@
 -- Assumes nothing.
 use mathlib.Core.Path.{_≡_, refl, sym, _∙_, ap, subst}
 use mathlib.Core.Bool.{Bool, true, false}
-use mathlib.Core.List.{List, [], _∷_, _++_, append-nil}
-use mathlib.Core.Option.{Option, none, some}
+use mathlib.Core.List.{List, [], _∷_, append-nil}
+use mathlib.Core.Option.{none, some}
 use Prim.Native.Nat.{ℕ, _+_, _*_, _-_, _≤_, _<_}
 use native.Mathlib.Omega.{arith}
-use lib.Dec.{eqb}
 use lib.ListN.{length, take, drop, length-append, length-drop}
 use lib.Seq.{length-take-le}
-use borrow.Author.Tests.{eq-eqb, ne-eqb}
 use Rattle.kinds.specs.Bytes.{ascii, same, lparen, semicolon}
 use Rattle.model.specs.declared.Refusal.{Refusal}
 use Rattle.model.specs.declared.Refusal.the-variants.{Eos, ExpectOpen, ExpectKeyword, ExpectIdentifier, ExpectEnd}
@@ -17,11 +15,11 @@ use Rattle.model.specs.declared.Keyword.{Keyword}
 use Rattle.model.specs.declared.Keyword.the-variants as key
 use Rattle.model.specs.declared.Sort.{Sort}
 use Rattle.model.specs.declared.Sort.the-variants.{Plain, Parameter, Event}
-use Rattle.model.specs.Text.{skip, peek}
-use Rattle.model.specs.Tree.{Fields, noField}
-use Rattle.model.specs.KindText.{Entry, entry, lookup}
-use Rattle.model.specs.Parser.{Ans, got, bad, deep, Found, found, missing, onAns, then, look, orElse, word, wordEnd, foundBy, keywordOf, lookIdent, ident, keyword, option, atEnd, end}
-use Rattle.model.specs.Reading.{list, fieldBy, tupleKind, deepest, fields, returns, mutabilities, keywordText}
+use Rattle.model.specs.Text.{skip}
+use Rattle.model.specs.Tree.{Fields}
+use Rattle.model.specs.KindText.{entry}
+use Rattle.model.specs.Parser.{Ans, got, bad, deep, Found, found, missing, onAns, then, look, orElse, word, wordEnd, foundBy, keywordOf, ident, keyword, atEnd, end}
+use Rattle.model.specs.Reading.{list, fieldBy, tupleKind, deepest, fields, returns, keywordText}
 use Rattle.model.specs.Layout.{recordOf}
 use Rattle.model.specs.Record.{encodeName, encodeFields, encodeList}
 use Rattle.model.proofs.Holds.{is-got}
@@ -33,11 +31,11 @@ use Rattle.fields.specs.declared.Read.{Read}
 use Rattle.fields.specs.declared.Read.the-variants.{Got, Bad, Deep}
 use Rattle.fields.specs.Words.{WordIs, Looked}
 use Rattle.fields.specs.Scratch.{toRead, bytesOf, Room, Put, listOf}
-use Rattle.fields.proofs.Spots.{word-is, no-ident, is-ident, AllSmall, lookup-small, option-none, option-some}
+use Rattle.fields.proofs.Spots.{word-is, no-ident, is-ident}
 use Rattle.fields.proofs.Ends.{look-found, look-missing, seen, unseen, take-got, take-eos, take-bad}
 use Rattle.fields.proofs.Family.{of-got, of-bad, of-deep}
 use Rattle.fields.proofs.Family as family
-use Rattle.declaration.specs.Stages.{Paid, Did, Behind, Took, keywordIs, identOf, listIn, returnsOf, sortOf, wordsOf, absent, statedBy, StatedIs}
+use Rattle.declaration.specs.Stages.{Paid, Did, Took, keywordIs, identOf, listIn, returnsOf, sortOf, wordsOf, statedBy}
 
 -- keywords
 module _ (k : Keyword) (w : List ℕ) (r : Bool) where

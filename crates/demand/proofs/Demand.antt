@@ -3,17 +3,16 @@
 use mathlib.Core.Path.{_≡_, refl, sym, _∙_, ap, ap₂}
 use mathlib.Core.Logic.{_↔_}
 use mathlib.Core.Bool.{Bool, true, false}
-use mathlib.Core.List.{List, [], _∷_, _++_}
+use mathlib.Core.List.{List, _++_}
 use mathlib.Core.Option.{some}
-use Prim.Native.Nat.{ℕ, _*_, _≤_}
+use Prim.Native.Nat.{ℕ, _≤_}
 use native.Mathlib.Omega.{arith}
 use lib.Dec.{ltb}
-use lib.ListN.{length, take, drop, length-append}
+use lib.ListN.{length, take, drop}
 use lib.Seq.{take-at}
 use borrow.Author.Tests.{le-ltb}
 use Rattle.kinds.specs.Kind.{Prototype, canonical}
 use Rattle.kinds.specs.Joined.{joined, Agree}
-use Rattle.model.specs.declared.Keyword.{Keyword}
 use Rattle.model.specs.declared.Call.{Call}
 use Rattle.model.specs.declared.Call.the-variants as call
 use Rattle.model.specs.declared.Refusal.{Refusal}
@@ -23,14 +22,14 @@ use Rattle.model.specs.Parser.{Ans, got, bad, deep}
 use Rattle.model.specs.Reading.{longestText, parse}
 use Rattle.model.specs.Record.{encode, decode, longestRecord, wellFormed}
 use Rattle.model.specs.Line.{keywordIn, canonicalText, line}
-use Rattle.model.specs.Answer.{Outcome, accepted, refused, Output, writes, refuses, said, outcome, after, handed, refusalNumber, number}
-use Rattle.model.specs.Calls.{written, readOutput, canonicalOutput, AcceptedAs, AllAccepted, SameLine}
+use Rattle.model.specs.Answer.{accepted, refused, Output, writes, refuses, said, outcome, after, handed, refusalNumber}
+use Rattle.model.specs.Calls.{written, readOutput, canonicalOutput, AllAccepted}
 use Rattle.model.specs.Calls as calls
 use Rattle.model.proofs.Pieces.{Bytes}
 use Rattle.model.proofs.Records.{decode-exactly, encode-bytes}
 use Rattle.model.proofs.Sound.{read-well-formed, record-small}
 use Rattle.model.proofs.Demand.{joined-texts, line-back}
-use Rattle.demand.specs.Runs.{ReadRun, CanonicalRun, NameRun, Filed, AllFiled, no-text, one-text, endToEnd, lineText, ReadBack}
+use Rattle.demand.specs.Runs.{ReadRun, CanonicalRun, LineOf, LinesOf, no-text, one-text, endToEnd, lineText, ReadBack}
 
 -- what an answer says is one thing
 accepted-same : {m n : ℕ} → accepted m ≡ accepted n → m ≡ n
@@ -77,9 +76,9 @@ line-of c s d n p e f =
     let q : decode (encode 4 d) ≡ some d = decode-exactly (encode 4 d) d (encode-bytes d w) .1 (w, refl) in
     rw (canonicalOutput, q, canonicalText, f)
 
-filed-line : {s l : List ℕ} {p : Prototype} → Filed s p l → l ≡ canonical p
+line-written : {s l : List ℕ} {p : Prototype} → LineOf s p l → l ≡ canonical p
 unfolding readOutput written
-filed-line {s} {l} {p} f =
+line-written {s} {l} {p} f =
     let a = f .reads in
     let out : readOutput (a .call) s ≡ writes (encode 4 (a .declaration)) = rw (readOutput, a .reads) in
     let (_, there) = ran (readOutput (a .call) s) (encode 4 (a .declaration)) out (f .room) (f .left) (f .answer) (f .reading .says) (f .reading .leaves) (f .n) (f .read) in
@@ -87,17 +86,17 @@ filed-line {s} {l} {p} f =
     let (_, same) = ran (canonicalOutput (take (f .n) (f .left))) (canonical p) lined (f .line-room) (f .line-left) (f .line-answer) (f .writing .says) (f .writing .leaves) (f .m) (f .written) in
     f .line ∙ same
 
-all-accepted : {ss ls : List (List ℕ)} {ps : List Prototype} → AllFiled ss ps ls → AllAccepted ss ps
+all-accepted : {ss ls : List (List ℕ)} {ps : List Prototype} → LinesOf ss ps ls → AllAccepted ss ps
 all-accepted no-text = calls.no-text
 all-accepted (one-text f r) = calls.one-text (f .reads) (all-accepted r)
 
-all-lines : {ss ls : List (List ℕ)} {ps : List Prototype} → AllFiled ss ps ls → endToEnd ls ≡ joined ps
+all-lines : {ss ls : List (List ℕ)} {ps : List Prototype} → LinesOf ss ps ls → endToEnd ls ≡ joined ps
 unfolding endToEnd joined
 all-lines no-text = refl
-all-lines (one-text f r) = ap₂ _++_ (filed-line f) (all-lines r)
+all-lines (one-text f r) = ap₂ _++_ (line-written f) (all-lines r)
 
 -- T3: "Joined canonical texts are equal bytes exactly when the lists they come from agree in length, and place by place in name and kinds"
-pub joined-lines : {ss ts ls ms : List (List ℕ)} {ps qs : List Prototype} → AllFiled ss ps ls → AllFiled ts qs ms → (endToEnd ls ≡ endToEnd ms) ↔ Agree ps qs
+pub joined-lines : {ss ts ls ms : List (List ℕ)} {ps qs : List Prototype} → LinesOf ss ps ls → LinesOf ts qs ms → (endToEnd ls ≡ endToEnd ms) ↔ Agree ps qs
 joined-lines a b =
     let (to, from) = joined-texts (all-accepted a) (all-accepted b) in
     (λ e. to (sym (all-lines a) ∙ e ∙ all-lines b), λ g. all-lines a ∙ from g ∙ sym (all-lines b))

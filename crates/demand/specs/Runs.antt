@@ -35,7 +35,7 @@ pub record NameRun (b name : List ℕ) (refusal : ℕ) : Type 0 where
 
 -- "A text is accepted as a function, event or error if the general call or the call named for that keyword, lent enough, reads it so": with the
 -- name and kinds p; l is what the canonical call wrote of the record that was written
-pub record Filed (s : List ℕ) (p : Prototype) (l : List ℕ) : Type 0 where
+pub record LineOf (s : List ℕ) (p : Prototype) (l : List ℕ) : Type 0 where
   pub reads : AcceptedAs s p
   pub room : List ℕ
   pub left : List ℕ
@@ -52,9 +52,9 @@ pub record Filed (s : List ℕ) (p : Prototype) (l : List ℕ) : Type 0 where
   pub line : l ≡ take m line-left
 
 -- lists of texts, each with its name and kinds and its line at the same place
-pub data AllFiled : List (List ℕ) → List Prototype → List (List ℕ) → Type 0 where
-  no-text : AllFiled [] [] []
-  one-text : {s l : List ℕ} {p : Prototype} {ss ls : List (List ℕ)} {ps : List Prototype} → Filed s p l → AllFiled ss ps ls → AllFiled (s ∷ ss) (p ∷ ps) (l ∷ ls)
+pub data LinesOf : List (List ℕ) → List Prototype → List (List ℕ) → Type 0 where
+  no-text : LinesOf [] [] []
+  one-text : {s l : List ℕ} {p : Prototype} {ss ls : List (List ℕ)} {ps : List Prototype} → LineOf s p l → LinesOf ss ps ls → LinesOf (s ∷ ss) (p ∷ ps) (l ∷ ls)
 
 -- lines "joined": end to end, with nothing between
 unfoldable pub endToEnd : List (List ℕ) → List ℕ

@@ -1,13 +1,13 @@
 -- The end of a list, and a tuple's suffix.
 -- Assumes nothing.
-use mathlib.Core.Path.{_≡_, refl, sym, _∙_, ap, subst}
+use mathlib.Core.Path.{_≡_, refl, sym, _∙_, ap}
 use mathlib.Core.Bool.{true, false}
 use mathlib.Core.List.{List, [], _∷_}
 use mathlib.Core.Option.{Option, none, some}
-use Prim.Native.Nat.{ℕ, suc, _+_, _*_, _-_, _≤_, _<_}
+use Prim.Native.Nat.{ℕ, _+_, _-_, _≤_}
 use native.Mathlib.Omega.{arith}
 use lib.Dec.{eqb}
-use lib.ListN.{length, take, drop, length-take, length-drop}
+use lib.ListN.{length, take, drop, length-drop}
 use lib.Seq.{length-take-le}
 use borrow.Author.Tests.{eq-eqb, ne-eqb}
 use Rattle.kinds.specs.Bytes.{isDigit, lbracket, rbracket, rparen}
@@ -17,8 +17,8 @@ use Rattle.model.specs.declared.Refusal.{Refusal}
 use Rattle.model.specs.declared.Refusal.the-variants.{Eos, ExpectClose}
 use Rattle.model.specs.Text.{span, one, skip, peek, part}
 use Rattle.model.specs.KindText.{longest, sizedBy}
-use Rattle.model.specs.Parser.{Ans, got, bad, Found, found, missing, onAns, look, takeChar, whyNot}
-use Rattle.model.specs.Reading.{ofDigits, closed, opened, arraySuffix, closing}
+use Rattle.model.specs.Parser.{got, bad, Found, found, missing, onAns, look, takeChar, whyNot}
+use Rattle.model.specs.Reading.{ofDigits, closed, arraySuffix, closing}
 use Rattle.model.specs.Record.{encodeFields}
 use Rattle.model.proofs.Scans.{part-rest}
 use Rattle.text.specs.Found.{toOption}

@@ -1,13 +1,12 @@
 -- Fields, tuples and lists: one law for each way through each reader.
 -- Assumes nothing.
 use mathlib.Core.Path.{_≡_, refl, sym, _∙_, ap, subst}
-use mathlib.Core.Bool.{Bool, true, false}
-use mathlib.Core.List.{List, [], _∷_, _++_, append-assoc, append-nil}
+use mathlib.Core.Bool.{true}
+use mathlib.Core.List.{List, [], _∷_, _++_, append-assoc}
 use Prim.Native.Nat.{ℕ, zero, suc, _+_, _*_, _-_, _≤_, _<_}
 use native.Mathlib.Omega.{arith}
 use native.Mathlib.Nat.{zero-add}
 use native.Mathlib.Numerals.{sub-one}
-use lib.Dec.{eqb}
 use lib.ListN.{length, length-append}
 use Rattle.kinds.specs.Bytes.{comma, lparen, rparen}
 use Rattle.kinds.specs.Kind.{Suffix}
@@ -16,7 +15,7 @@ use Rattle.model.specs.declared.Refusal.the-variants.{ExpectClose}
 use Rattle.model.specs.declared.Sort.{Sort}
 use Rattle.model.specs.declared.Sort.the-variants.{Plain}
 use Rattle.model.specs.Tree.{tuple, Field, Fields, noField, moreFields}
-use Rattle.model.specs.Parser.{Ans, got, bad, deep, Found, found, missing, Parser, onAns, then, look, takeChar}
+use Rattle.model.specs.Parser.{Ans, got, bad, deep, Found, Parser, onAns, then, takeChar}
 use Rattle.model.specs.Reading.{FieldKind, runKind, fieldKind, fieldBy, suffixes, closing, follow, restBy, rest, list, tupleKind, canSpecifyLocation}
 use Rattle.model.specs.Layout.{recordOf}
 use Rattle.model.specs.Record.{encodeBase, encodeSuffixes, encodeField, encodeFields}

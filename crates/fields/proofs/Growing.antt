@@ -4,10 +4,9 @@ use mathlib.Core.Path.{_≡_, refl, sym, _∙_, ap, subst}
 use mathlib.Core.List.{List, [], _∷_, _++_, append-assoc, append-nil}
 use Prim.Native.Nat.{ℕ, zero, suc, _+_, _*_, _-_, _≤_, _<_}
 use native.Mathlib.Omega.{arith}
-use native.Mathlib.Nat.{add-zero}
 use lib.ListN.{length, length-append}
 use Rattle.kinds.specs.Kind.{Suffix, sized, unsized}
-use Rattle.model.specs.Parser.{Ans, got, bad, deep, Found, found, missing, onAns}
+use Rattle.model.specs.Parser.{Ans, got, bad, deep, found, missing, onAns}
 use Rattle.model.specs.Reading.{arraySuffix, suffixesIn, suffixes}
 use Rattle.model.specs.Layout.{littleEndian, recordOf}
 use Rattle.model.specs.Record.{encodeSuffix, encodeSuffixes}
@@ -17,7 +16,7 @@ use Rattle.layout.proofs.Writes.{wrote-none, wrote-put, wrote-then}
 use Rattle.value.proofs.Suffixing.{encodes-last, sized-record, unsized-record}
 use Rattle.fields.specs.declared.Bracket.{Bracket}
 use Rattle.fields.specs.declared.Bracket.the-variants as bracket
-use Rattle.fields.specs.Scratch.{toFound, Behind, BracketIs, Room, Grows}
+use Rattle.fields.specs.Scratch.{toFound, BracketIs, Room, Grows}
 
 -- some suffixes are read and written, and the rest is read from p on
 pub record Growing (s : List ℕ) (at o : ℕ) (b₀ : List ℕ) (p len : ℕ) (b : List ℕ) : Type 0 where

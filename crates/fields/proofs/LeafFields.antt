@@ -3,27 +3,25 @@
 use mathlib.Core.Path.{_≡_, refl, sym, _∙_, ap, subst}
 use mathlib.Core.Bool.{Bool, true, false}
 use mathlib.Core.List.{List, [], _∷_, _++_}
-use Prim.Native.Nat.{ℕ, _+_, _*_, _-_, _≤_, _<_}
+use Prim.Native.Nat.{ℕ, _+_, _*_, _-_, _≤_}
 use native.Mathlib.Omega.{arith}
-use lib.Dec.{eqb}
 use lib.ListN.{length, take, drop, length-append, length-take, length-drop}
 use lib.Seq.{length-take-le}
-use borrow.Author.Tests.{eq-eqb, ne-eqb}
+use borrow.Author.Tests.{ne-eqb}
 use Rattle.kinds.specs.Kind.{Suffix}
 use Rattle.model.specs.declared.Refusal.{Refusal}
 use Rattle.model.specs.declared.Sort.{Sort}
 use Rattle.model.specs.declared.Sort.the-variants.{Plain, Parameter, Event}
 use Rattle.model.specs.Text.{runLength, part}
-use Rattle.model.specs.Tree.{Base as TreeBase, elementary, tuple, Field, field, Fields, unmarked}
+use Rattle.model.specs.Tree.{elementary, Field, field, unmarked}
 use Rattle.model.specs.KindText.{Spelled, ok, err, fromStr}
-use Rattle.model.specs.Parser.{Ans, got, bad, onAns, then, option, optionalName}
-use Rattle.model.specs.Reading.{FieldKind, ofRun, runKind, marks, isLocated, canSpecifyLocation}
+use Rattle.model.specs.Parser.{got, bad, onAns, then, option}
+use Rattle.model.specs.Reading.{FieldKind, runKind, marks, isLocated, canSpecifyLocation}
 use Rattle.model.specs.Record.{encodeElementary, encodeSuffix, encodeSuffixes, encodeBase, encodeField}
 use Rattle.model.proofs.Scans.{part-rest}
 use Rattle.model.proofs.Bounds.{field-size}
 use Rattle.model.proofs.Holds.{is-got}
 use Rattle.model.proofs.Readers.{run-kind-of}
-use Rattle.layout.specs.Buffer.{put, Wrote}
 use Rattle.layout.proofs.Writes.{wrote-none, wrote-put}
 use Rattle.value.specs.declared.Base.{Base}
 use Rattle.value.specs.declared.Base.the-variants as base
@@ -32,12 +30,12 @@ use Rattle.value.specs.declared.ByteLength.{ByteLength}
 use Rattle.value.specs.declared.RunKind.{RunKind}
 use Rattle.value.specs.declared.RunKind.the-variants as run
 use Rattle.value.specs.Elementary.{toElementary}
-use Rattle.value.specs.Run.{Suffixed, ReadIs, RunIs, LeafAt, LeafPut}
+use Rattle.value.specs.Run.{ReadIs, RunIs, LeafAt, LeafPut}
 use Rattle.value.proofs.Suffixing.{suffix-least}
 use Rattle.fields.specs.declared.Read.{Read}
 use Rattle.fields.specs.declared.Read.the-variants.{Got, Bad}
 use Rattle.fields.specs.Words.{marksBy, NamedIs}
-use Rattle.fields.specs.Scratch.{toRead, bytesOf, Within, Room, locatedBase, locatedBy, behindKind, leafOf, Put}
+use Rattle.fields.specs.Scratch.{toRead, bytesOf, Room, locatedBase, locatedBy, behindKind, leafOf, Put}
 
 -- locations
 module _ (b : Base) (l : ℕ) (z : l ≡ 0) where

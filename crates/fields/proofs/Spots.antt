@@ -7,17 +7,16 @@ use mathlib.Core.Option.{Option, none, some}
 use Prim.Native.Nat.{ℕ, suc, _+_, _*_, _-_, _≤_, _<_}
 use native.Mathlib.Omega.{arith}
 use native.Mathlib.Decide.{decLt, ℕ-discrete}
-use lib.Dec.{eqb}
-use lib.ListN.{length, take, drop, getD, length-take, length-drop}
+use lib.ListN.{length, take, drop, getD, length-drop}
 use lib.Seq.{length-take-le, drop-cons}
 use borrow.Author.Tests.{eq-eqb, ne-eqb}
 use Rattle.kinds.specs.Bytes.{ascii, same}
 use Rattle.model.specs.declared.Sort.{Sort}
 use Rattle.model.specs.declared.Sort.the-variants.{Plain, Parameter, Event}
-use Rattle.model.specs.Text.{skip, peek, wordLength, part}
+use Rattle.model.specs.Text.{peek, wordLength, part}
 use Rattle.model.specs.Tree.{unmarked, indexed}
 use Rattle.model.specs.KindText.{Entry, entry, lookup}
-use Rattle.model.specs.Parser.{Ans, got, Found, found, missing, orElse, word, wordEnd, foundBy, keywordOf, isIdent, lookIdent, option, optionalName}
+use Rattle.model.specs.Parser.{got, found, missing, word, wordEnd, keywordOf, lookIdent, option, optionalName}
 use Rattle.model.specs.Reading.{locations}
 use Rattle.model.proofs.Scans.{part-rest, peek-byte, peek-end}
 use Rattle.text.specs.Found.{Skipped}

@@ -8,12 +8,11 @@ use lib.Dec.{eqb}
 use lib.ListN.{length, drop}
 use Rattle.kinds.specs.Bytes.{isDigit, rbracket}
 use Rattle.kinds.specs.Kind.{Suffix, sized, unsized}
-use Rattle.model.specs.declared.Refusal.{Refusal}
 use Rattle.model.specs.declared.Sort.{Sort}
 use Rattle.model.specs.Text.{span, one, part}
-use Rattle.model.specs.Tree.{Field, Fields, field, unmarked}
+use Rattle.model.specs.Tree.{Field, field, unmarked}
 use Rattle.model.specs.Parser.{Ans, got, bad, deep, Found, found, missing, Parser, onAns, then, _>>=_, return, look, option, optionalName}
-use Rattle.model.specs.Reading.{FieldKind, runKind, ofDigits, closed, opened, arraySuffix, suffixes, marks, fieldBy, closing, follow, rest, list, tupleKind, canSpecifyLocation}
+use Rattle.model.specs.Reading.{FieldKind, runKind, ofDigits, closed, arraySuffix, suffixes, marks, fieldBy, closing, follow, rest, list, tupleKind, canSpecifyLocation}
 use Rattle.model.specs.Record.{encodeBase, encodeSuffixes, encodeField, encodeFields}
 use Rattle.layout.specs.Buffer.{Wrote}
 use Rattle.value.specs.declared.Base.{Base}

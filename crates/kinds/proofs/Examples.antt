@@ -2,9 +2,9 @@
 -- Assumes nothing.
 use mathlib.Core.Path.{_≡_, refl}
 use mathlib.Core.Bool.{true, false}
-use mathlib.Core.List.{List, [], _∷_, map}
+use mathlib.Core.List.{[], _∷_, map}
 use mathlib.Core.Option.{none, some}
-use Prim.Native.Nat.{ℕ, _-_, _^_}
+use Prim.Native.Nat.{_-_, _^_}
 use Rattle.kinds.specs.Bytes.{ascii}
 use Rattle.kinds.specs.Decimal.{digits, decimal, unsigned, plain, number}
 use Rattle.kinds.specs.Kind.{bits, isBitWidth, isByteLength, uint, address, bool, sized, unsized, elementary, tuple, array, noKind, moreKinds, elementaryText, suffixText, kindText, canonical}

@@ -1,7 +1,7 @@
 -- Kinds and canonical text, from the Solidity Contract ABI Specification, sections "Types" and "Function Selector".
 -- Document 01's kind is what the specification calls a type, and its suffix what makes a type an array.
 -- Assumes nothing.
-use mathlib.Core.Bool.{Bool, true, false, _&&_}
+use mathlib.Core.Bool.{Bool, true, _&&_}
 use mathlib.Core.List.{List, [], _∷_, _++_}
 use Prim.Native.Nat.{ℕ, _%_}
 use lib.Dec.{eqb}

@@ -1,13 +1,12 @@
 -- Laws of bytes put into a buffer.
 -- Assumes nothing.
 use mathlib.Core.Path.{_≡_, refl, sym, ap, _∙_}
-use mathlib.Core.List.{List, [], _∷_, _++_, append-assoc, append-nil}
-use Prim.Native.Nat.{ℕ, zero, suc, _+_, _*_, _-_, _/_, _%_, _≤_, _<_}
+use mathlib.Core.List.{List, [], _∷_, _++_, append-assoc}
+use Prim.Native.Nat.{ℕ, suc, _+_, _*_, _-_, _/_, _%_, _≤_, _<_}
 use native.Mathlib.Omega.{arith}
-use native.Mathlib.Nat.{add-zero, add-assoc}
 use native.Mathlib.Numerals.{add-one, add-two, add-three, add-four, add-five, add-six, add-seven}
 use lib.ListN.{length, take, drop, set, getD, length-append, length-take, length-drop, length-set, take-append-drop, List·getD-append}
-use lib.Seq.{sets, sets-eq, paste, paste-zero, paste-suc, length-paste, take-at, drop-at, take-append-le, take-suc, drop-cons, take-take, take-add, length-take-le, take-append-add, take-all, set-at, getD-take, drop-append-add, drop-drop}
+use lib.Seq.{sets, sets-eq, paste, paste-zero, paste-suc, length-paste, take-at, drop-at, take-append-le, take-suc, drop-cons, take-take, length-take-le, take-all, set-at, getD-take, drop-drop}
 use Rattle.model.specs.Layout.{littleEndian, leValue, recordOf}
 use Rattle.layout.specs.Buffer.{put, shifted, inserted, head, frontOf}
 

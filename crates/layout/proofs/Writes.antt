@@ -1,11 +1,11 @@
 -- What is written after, before and around what: laws of `Wrote`.
 -- Assumes nothing.
 use mathlib.Core.Path.{_≡_, refl, sym, ap, _∙_}
-use mathlib.Core.List.{List, [], _∷_, _++_, append-assoc, append-nil}
-use Prim.Native.Nat.{ℕ, _+_, _-_, _≤_, _<_}
+use mathlib.Core.List.{List, [], _++_, append-assoc, append-nil}
+use Prim.Native.Nat.{ℕ, _+_, _-_, _≤_}
 use native.Mathlib.Omega.{arith}
 use native.Mathlib.Nat.{add-zero}
-use lib.ListN.{length, take, drop, length-append, length-take, length-drop}
+use lib.ListN.{length, take, drop, length-append}
 use lib.Seq.{take-at, drop-at, take-take, take-add, length-take-le, take-append-add}
 use Rattle.layout.specs.Buffer.{put, inserted, Wrote}
 use Rattle.layout.proofs.Puts.{length-put}

@@ -1,25 +1,23 @@
 -- Demand 3, of the definitions of the calls: joined lines of accepted texts come apart, and the line of a well-formed record reads back.
 -- Assumes nothing.
-use mathlib.Core.Path.{_≡_, refl, sym, _∙_, ap}
+use mathlib.Core.Path.{_≡_, refl, ap}
 use mathlib.Core.Logic.{_↔_}
 use mathlib.Core.Bool.{true}
-use mathlib.Core.List.{List, [], _∷_}
-use mathlib.Core.Option.{Option, none, some}
+use mathlib.Core.List.{List}
+use mathlib.Core.Option.{some}
 use Prim.Native.Nat.{ℕ, suc, _≤_}
 use lib.ListN.{length}
-use Rattle.kinds.specs.Bytes.{isWord}
 use Rattle.kinds.specs.Kind.{Prototype}
 use Rattle.kinds.specs.Joined.{joined, named, Agree}
 use Rattle.kinds.proofs.Logic.{both}
 use Rattle.kinds.proofs.Joined.{joined-agree}
 use Rattle.model.specs.declared.Call.the-variants as call
 use Rattle.model.specs.Tree.{Declaration, nameKinds}
-use Rattle.model.specs.Parser.{got}
-use Rattle.model.specs.Reading.{longestText, parse}
+use Rattle.model.specs.Reading.{longestText}
 use Rattle.model.specs.Record.{encode, decode, wellFormed}
 use Rattle.model.specs.Line.{keywordIn, canonicalText, nameOf, line}
 use Rattle.model.specs.Answer.{writes}
-use Rattle.model.specs.Calls.{written, readOutput, orWrongSort, ofRecord, canonicalOutput, nameOutput, AcceptedAs, AllAccepted, no-text, one-text, SameLine}
+use Rattle.model.specs.Calls.{written, readOutput, canonicalOutput, nameOutput, AllAccepted, no-text, one-text, SameLine}
 use Rattle.model.proofs.Pieces.{Bytes}
 use Rattle.model.proofs.Records.{decode-exactly, encode-bytes}
 use Rattle.model.proofs.Sound.{accepted-proper, read-well-formed}

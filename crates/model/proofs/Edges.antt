@@ -6,11 +6,9 @@ use Prim.Native.Nat.{ℕ}
 use Prim.Native.String.{String}
 use Rattle.kinds.specs.Bytes.{ascii}
 use Rattle.model.specs.declared.Call.the-variants as call
-use Rattle.model.specs.Tree.{Field}
-use Rattle.model.specs.Parser.{Ans, got, bad, deep}
 use Rattle.model.specs.Reading.{admit}
 use Rattle.model.specs.Line.{fieldText}
-use Rattle.model.specs.Answer.{Output, writes, Outcome, refused, outcome}
+use Rattle.model.specs.Answer.{writes, refused, outcome}
 use Rattle.model.specs.Calls.{readOutput, kindOutput, readKind, written}
 use Rattle.model.proofs.Evaluation.{evaluation}
 

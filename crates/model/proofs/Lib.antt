@@ -15,5 +15,6 @@ pub mod KindBack
 pub mod Readback
 pub mod Spelling
 pub mod Loose
+pub mod Lengths
 pub mod Lines
 pub mod Demand

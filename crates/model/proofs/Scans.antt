@@ -6,15 +6,14 @@ use mathlib.Core.List.{List, [], _∷_, _++_, append-nil}
 use mathlib.Core.Option.{Option, none, some}
 use Prim.Native.Nat.{ℕ, zero, suc, _+_, _*_, _-_, _≤_, _<_, zero-le, suc-le-suc}
 use native.Mathlib.Omega.{arith}
-use native.Mathlib.Nat.{add-zero, zero-add}
-use native.Mathlib.Numerals.{add-one}
+use native.Mathlib.Nat.{zero-add}
 use native.Mathlib.Decide.{decLt}
 use lib.Dec.{leb, ltb, eqb}
-use lib.ListN.{length, take, drop, getD, length-append, length-drop, drop-of-length-le}
-use lib.Seq.{take-all, drop-cons, drop-drop, drop-append-seam, drop-append-le, take-append-le, getD-append-seam}
-use borrow.Author.Tests.{lt-ltb, le-ltb, ltb-true, leb-true, le-leb, lt-leb, eqb-true, ne-eqb, not-true}
+use lib.ListN.{length, take, drop, getD, length-drop}
+use lib.Seq.{take-all, drop-cons, drop-drop, drop-append-seam}
+use borrow.Author.Tests.{lt-ltb, le-ltb, leb-true, le-leb, lt-leb, eqb-true, ne-eqb, not-true}
 use Rattle.kinds.specs.Bytes.{comma, rparen, between, all, isAscii, isDigit, isLetter, isWordByte, isWord}
-use Rattle.model.specs.Text.{spanFrom, span, one, Char, char, noChar, isTail, tails, scalar, charOf, charLength, character, validLength, isBlank, blankLength, blank, skip, peek, wordLength, runByte, runLength, part}
+use Rattle.model.specs.Text.{spanFrom, span, one, Char, char, noChar, isTail, tails, scalar, charOf, charLength, character, validLength, isBlank, blankLength, blank, skip, peek, wordLength, runByte, runLength}
 
 and-both : (x y : Bool) → (x && y) ≡ true → (x ≡ true) × (y ≡ true)
 and-both x y e = (and-eq-true-iff x y) .0 e

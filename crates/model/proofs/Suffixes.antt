@@ -4,15 +4,15 @@ use mathlib.Core.Path.{_≡_, refl, sym, _∙_, ap}
 use mathlib.Core.Bool.{Bool, true, false}
 use mathlib.Core.List.{List, [], _∷_, _++_}
 use mathlib.Core.Option.{Option, none, some}
-use Prim.Native.Nat.{ℕ, zero, suc, _+_, _≤_, _<_}
+use Prim.Native.Nat.{ℕ, zero, suc, _+_, _<_}
 use native.Mathlib.Omega.{arith}
 use lib.Dec.{eqb}
-use lib.ListN.{length, length-append}
+use lib.ListN.{length}
 use borrow.Author.Tests.{eq-eqb, ne-eqb, eqb-true}
-use Rattle.kinds.specs.Bytes.{ascii, lbracket, rbracket, same}
+use Rattle.kinds.specs.Bytes.{lbracket, rbracket, same}
 use Rattle.kinds.specs.Kind.{Elementary, Suffix}
 use Rattle.kinds.proofs.Logic.{same-equal}
-use Rattle.model.specs.KindText.{Result, ok, err, onResult, Entry, entry, lookup, kindWords, Cut, cut, uncut, cutAfter, cutLast, stripStep, strip, shut, Peeled, peeled, bare, peelBy, peelAt, peel, inside, Spelled, addSuffix, unsuffixed, orNumber, elementaryOf, fromStrBy, fromStrIn, fromStr}
+use Rattle.model.specs.KindText.{Result, onResult, Entry, entry, lookup, kindWords, Cut, cut, uncut, cutLast, stripStep, strip, shut, Peeled, peeled, bare, peelBy, peelAt, peel, inside, Spelled, addSuffix, unsuffixed, orNumber, elementaryOf, fromStrBy, fromStrIn, fromStr}
 use Rattle.model.proofs.Bounds.{peel-shorter}
 
 -- the last byte d

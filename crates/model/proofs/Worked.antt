@@ -5,15 +5,15 @@ use mathlib.Core.List.{List, [], _∷_, _++_}
 use mathlib.Core.Option.{some}
 use Prim.Native.Nat.{ℕ}
 use Rattle.kinds.specs.Bytes.{ascii}
-use Rattle.kinds.specs.Kind.{bits, uint, string, Suffix, sized, unsized, Kind}
+use Rattle.kinds.specs.Kind.{bits, uint, string, sized, unsized, Kind}
 use Rattle.model.specs.declared.Call.the-variants as call
 use Rattle.model.specs.Text.{skip, runLength, validLength}
-use Rattle.model.specs.Tree.{elementary, tuple, Field, field, noField, moreFields, Declaration, kindOf}
+use Rattle.model.specs.Tree.{elementary, tuple, field, noField, moreFields, Declaration, kindOf}
 use Rattle.model.specs.Parser.{got}
 use Rattle.model.specs.Reading.{parse}
 use Rattle.model.specs.Record.{decode}
 use Rattle.model.specs.Answer.{writes, accepted, refused, outcome, after}
-use Rattle.model.specs.Calls.{readOutput, kindOutput, readKind, canonicalOutput, signatureOutput, nameOutput}
+use Rattle.model.specs.Calls.{readOutput, readKind, canonicalOutput, signatureOutput, nameOutput}
 use Rattle.model.specs.Message.{messageOutput}
 use Rattle.model.specs.Deposit.{depositLine}
 use Rattle.model.proofs.Evaluation.{evaluation}

@@ -1,14 +1,13 @@
 -- What each call writes, or why it refuses. `outcome` and `after` of Answer say the rest.
 -- Assumes nothing.
 use mathlib.Core.Path.{_≡_}
-use mathlib.Core.Bool.{Bool, true, false}
+use mathlib.Core.Bool.{true, false}
 use mathlib.Core.List.{List, [], _∷_}
 use mathlib.Core.Option.{Option, none, some}
 use Prim.Native.Nat.{ℕ}
 use lib.Dec.{eqb}
 use Rattle.kinds.specs.Bytes.{lparen}
 use Rattle.kinds.specs.Kind.{Prototype, canonical as canonicalLine}
-use Rattle.model.specs.declared.Refusal.{Refusal}
 use Rattle.model.specs.declared.Refusal.the-variants.{TooDeep, StartsWithTuple, NotWellFormed, WrongSort}
 use Rattle.model.specs.declared.Keyword.{Keyword}
 use Rattle.model.specs.declared.Call.{Call}

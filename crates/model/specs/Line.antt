@@ -1,13 +1,13 @@
 -- The lines that are written of a declaration or a field.
 -- Assumes nothing.
-use mathlib.Core.List.{List, [], _∷_, _++_}
+use mathlib.Core.List.{List, _∷_, _++_}
 use mathlib.Core.Option.{Option, none, some}
 use Prim.Native.Nat.{ℕ}
 use Rattle.kinds.specs.Bytes.{ascii, space}
 use Rattle.kinds.specs.Kind.{Kind, Prototype, kindText, canonical}
 use Rattle.model.specs.declared.Keyword.{Keyword}
 use Rattle.model.specs.declared.Keyword.the-variants as key
-use Rattle.model.specs.Tree.{Field, field, Fields, kindOf, kindsOf, Declaration, nameKinds}
+use Rattle.model.specs.Tree.{Field, field, kindOf, kindsOf, Declaration, nameKinds}
 use Rattle.model.specs.Reading.{keywordText}
 
 unfoldable pub keywordIn : Declaration → Keyword

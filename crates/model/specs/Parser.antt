@@ -1,11 +1,11 @@
 -- Parsers: readings at a place of a text. A look may fail and then moves nothing; a reading that fails says why and where.
 -- Assumes nothing.
-use mathlib.Core.Bool.{Bool, true, false}
+use mathlib.Core.Bool.{true, false}
 use mathlib.Core.List.{List, [], _∷_}
 use mathlib.Core.Option.{Option, none, some}
-use Prim.Native.Nat.{ℕ, zero, suc, _+_}
+use Prim.Native.Nat.{ℕ, _+_}
 use lib.Dec.{eqb}
-use lib.ListN.{length, take, drop}
+use lib.ListN.{drop}
 use Rattle.kinds.specs.Bytes.{semicolon}
 use Rattle.model.specs.declared.Refusal.{Refusal}
 use Rattle.model.specs.declared.Refusal.the-variants.{Eos, ExpectKeyword, ExpectIdentifier, ExpectEnd}

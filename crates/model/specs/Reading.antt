@@ -5,11 +5,10 @@ use mathlib.Core.List.{List, [], _∷_}
 use mathlib.Core.Option.{Option, none, some}
 use Prim.Native.Nat.{ℕ, zero, suc, _+_}
 use lib.Dec.{ltb, eqb}
-use lib.ListN.{length, take, drop}
+use lib.ListN.{length, drop}
 use Rattle.kinds.specs.Bytes.{ascii, comma, lparen, rparen, lbracket, rbracket, isDigit}
 use Rattle.kinds.specs.Decimal.{plain}
-use Rattle.kinds.specs.Kind.{Elementary, int, uint, fixedBytes, address, bool, bytes, string, Suffix, sized, unsized}
-use Rattle.model.specs.declared.Refusal.{Refusal}
+use Rattle.kinds.specs.Kind.{Elementary, int, uint, fixedBytes, address, bool, bytes, string, Suffix, unsized}
 use Rattle.model.specs.declared.Refusal.the-variants.{ExpectOpen, ExpectClose, ExpectDeclaration, TooLong, NotUtf8}
 use Rattle.model.specs.declared.Keyword.{Keyword}
 use Rattle.model.specs.declared.Keyword.the-variants as key

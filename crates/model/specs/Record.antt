@@ -3,14 +3,14 @@
 use mathlib.Core.Bool.{Bool, true, false, _&&_, _||_, not}
 use mathlib.Core.List.{List, [], _∷_, _++_}
 use mathlib.Core.Option.{Option, none, some}
-use Prim.Native.Nat.{ℕ, zero, suc, _+_, _-_}
+use Prim.Native.Nat.{ℕ, zero, suc, _+_}
 use lib.Dec.{leb, eqb}
 use lib.ListN.{length, take, drop}
 use Rattle.kinds.specs.Bytes.{ascii, same, all, between, isWord}
 use Rattle.kinds.specs.Kind.{BitWidth, bits, octets, isBitWidth, isByteLength, isElementary, Elementary, int, uint, fixedBytes, address, bool, bytes, string, Suffix, sized, unsized}
 use Rattle.model.specs.declared.Sort.{Sort}
 use Rattle.model.specs.declared.Sort.the-variants.{Plain, Parameter, Event}
-use Rattle.model.specs.Tree.{Base, elementary, tuple, Field, field, Fields, noField, moreFields, unmarked, indexed, notStated, isPayable, Declaration}
+use Rattle.model.specs.Tree.{Base, elementary, tuple, Field, field, Fields, noField, moreFields, unmarked, indexed, Declaration}
 use Rattle.model.specs.KindText.{longest}
 use Rattle.model.specs.Reading.{deepest}
 use Rattle.model.specs.Layout.{littleEndian, leValue, recordOf, Piece, piece, noPiece, pieceOf}

@@ -4,14 +4,14 @@ use mathlib.Core.Path.{_≡_, refl, sym, _∙_, ap}
 use mathlib.Core.Bool.{Bool, true, false}
 use mathlib.Core.List.{List, [], _∷_, _++_}
 use mathlib.Core.Option.{Option, none, some}
-use Prim.Native.Nat.{ℕ, _+_, _-_, _/_, _%_, _≤_, _<_}
+use Prim.Native.Nat.{ℕ, _+_, _/_, _%_, _≤_, _<_}
 use native.Mathlib.Omega.{arith}
 use lib.Dec.{eqb}
 use lib.ListN.{length, take, drop, length-append}
 use lib.Seq.{take-all}
 use borrow.Author.Tests.{le-leb, lt-leb, eq-eqb, ne-eqb, eqb-true}
 use Rattle.kinds.specs.Decimal.{decimal}
-use Rattle.kinds.specs.Kind.{BitWidth, bits, octets, isBitWidth, isByteLength, Elementary, int, uint, fixedBytes, address, bool, bytes, string, elementaryText, suffixText, sized, unsized}
+use Rattle.kinds.specs.Kind.{BitWidth, bits, octets, isBitWidth, isByteLength, Elementary, int, uint, fixedBytes, elementaryText, suffixText, sized, unsized}
 use Rattle.kinds.proofs.Decimal.{decimal-one, decimal-more, decimal-short}
 use Rattle.model.specs.Layout.{leValue}
 use Rattle.model.specs.Record.{onOption, when, ended, wholly, Case, case, select, widthFrom, byteLengthFrom, elementaryCases, suffixCases, decodeElementary, decodeSuffix}

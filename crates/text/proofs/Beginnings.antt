@@ -3,19 +3,19 @@
 use mathlib.Core.Path.{_≡_, refl, sym, _∙_}
 use mathlib.Core.Bool.{Bool, true, false, false≢true}
 use mathlib.Core.List.{List, [], _∷_}
-use Prim.Native.Nat.{ℕ, zero, suc, _+_, _/_, _≤_, _<_}
+use Prim.Native.Nat.{ℕ, zero, suc, _+_, _≤_, _<_}
 use native.Mathlib.Omega.{arith}
 use native.Mathlib.Nat.{zero-add}
 use native.Mathlib.Numerals.{add-one}
 use lib.Dec.{leb, eqb}
-use lib.ListN.{length, take, drop, getD, length-drop, drop-of-length-le}
-use lib.Seq.{take-add, take-take, length-take-le, drop-cons}
+use lib.ListN.{length, take, drop, getD, drop-of-length-le}
+use lib.Seq.{take-add, take-take, drop-cons}
 use borrow.Author.Tests.{leb-true, eqb-true, ne-eqb}
 use Rattle.kinds.specs.Bytes.{all, isLetter, isWordByte}
 use Rattle.kinds.proofs.Logic.{both, left, right, all-append, letter-word}
 use Rattle.model.specs.Text.{spanFrom, span, one, wordLength, runByte, runLength}
 use Rattle.model.proofs.Scans.{word-first, blank-plain}
-use Rattle.text.specs.Found.{isAlphabetic, isPlain, isStop, flags, Begun, Runs}
+use Rattle.text.specs.Found.{isAlphabetic, isPlain, isStop, Begun, Runs}
 use Rattle.text.proofs.Eights.{span-all, alphabetic}
 use Rattle.text.proofs.Skipping.{run-comma, run-paren, run-space, run-stop}
 

@@ -10,7 +10,7 @@ use native.Mathlib.Numerals.{add-one}
 use lib.Dec.{eqb}
 use lib.ListN.{length, take, drop, getD, length-drop}
 use lib.Seq.{drop-cons}
-use borrow.Author.Tests.{lt-ltb, eq-eqb, ne-eqb, eqb-true, eqb-false}
+use borrow.Author.Tests.{lt-ltb, ne-eqb, eqb-true}
 use Rattle.kinds.specs.Bytes.{all, isAscii, comma, rparen}
 use Rattle.model.specs.Text.{span, charOf, charLength, character, validLength, isBlank, blankLength, blank, skip, peek, runByte, runLength}
 use Rattle.model.proofs.Scans.{span-le, span-item, blank-nil, blank-ascii, blank-space, blank-plain, skip-le, skip-within, skip-none, skip-space, skip-part, peek-byte, peek-end, part-rest, scan-none, scan-item, valid-ascii}

@@ -1,26 +1,23 @@
 -- The kind call, by how it ends.
 -- Assumes nothing.
-use mathlib.Core.Path.{_≡_, refl, sym, _∙_, ap, subst}
+use mathlib.Core.Path.{_≡_, sym, _∙_, ap, subst}
 use mathlib.Core.List.{List, []}
-use Prim.Native.Nat.{ℕ, _+_, _*_, _-_, _≤_, _<_}
+use Prim.Native.Nat.{ℕ, _+_, _≤_, _<_}
 use native.Mathlib.Omega.{arith}
-use lib.Dec.{ltb, eqb}
-use lib.ListN.{length, take, drop, length-append}
-use borrow.Author.Tests.{lt-ltb, le-ltb, eq-eqb, ne-eqb}
+use lib.ListN.{length, take}
+use borrow.Author.Tests.{lt-ltb, le-ltb, ne-eqb}
 use Rattle.model.specs.declared.Refusal.{Refusal}
 use Rattle.model.specs.declared.Refusal.the-variants.{TooLong, NotUtf8, StartsWithTuple, NoRoom}
 use Rattle.model.specs.declared.Answer.{Answer}
 use Rattle.model.specs.declared.Answer.the-variants.{Accepted, Refused}
 use Rattle.model.specs.Text.{validLength, peek}
-use Rattle.model.specs.Tree.{Field, field, elementary}
+use Rattle.model.specs.Tree.{field, elementary}
 use Rattle.model.specs.KindText.{err, fromStr}
-use Rattle.model.specs.Parser.{Ans, got, bad}
 use Rattle.model.specs.Reading.{admit}
-use Rattle.model.specs.Record.{encodeElementary, encodeSuffixes, encodeField}
+use Rattle.model.specs.Record.{encodeElementary, encodeField}
 use Rattle.model.specs.Answer.{writes, refuses}
 use Rattle.model.specs.Calls.{written, loneField, readKind, kindOutput}
 use Rattle.model.proofs.Bounds.{field-size}
-use Rattle.layout.specs.Buffer.{put}
 use Rattle.layout.proofs.Answers.{Ends, ends-refused, ends-full, ends-written}
 use Rattle.value.specs.declared.Base.{Base}
 use Rattle.value.specs.declared.RunKind.{RunKind}

@@ -1,19 +1,18 @@
 -- Fields of elementary kinds, written.
 -- Assumes nothing.
-use mathlib.Core.Path.{_≡_, refl, sym, _∙_, ap}
+use mathlib.Core.Path.{_≡_, sym, _∙_, ap}
 use mathlib.Core.List.{List, _++_, append-assoc}
-use Prim.Native.Nat.{ℕ, _+_, _≤_}
+use Prim.Native.Nat.{ℕ, _+_}
 use native.Mathlib.Omega.{arith}
 use lib.ListN.{length, drop, length-append}
 use Rattle.kinds.specs.Kind.{Suffix}
-use Rattle.model.specs.Tree.{field, elementary}
 use Rattle.model.specs.Layout.{littleEndian, recordOf}
 use Rattle.model.specs.Record.{encodeElementary, encodeSuffixes, encodeName, encodeField}
 use Rattle.layout.specs.Buffer.{put, frontOf}
-use Rattle.layout.proofs.Puts.{put-then, length-put, length-front, field-record}
+use Rattle.layout.proofs.Puts.{put-then, length-front, field-record}
 use Rattle.value.specs.declared.Base.{Base}
 use Rattle.value.specs.Elementary.{toElementary}
-use Rattle.value.specs.Run.{Suffixed, SuffixesAt, SuffixesPut, LeafAt, LeafPut}
+use Rattle.value.specs.Run.{SuffixesAt, SuffixesPut, LeafAt, LeafPut}
 use Rattle.value.proofs.Suffixing.{suffixed-unique}
 
 module _ (t : List ℕ) (k : Base) (from len mark : ℕ) (nm : List ℕ) (o : ℕ) (b : List ℕ) (a : LeafAt t k from len nm o b) where

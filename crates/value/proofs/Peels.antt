@@ -1,19 +1,16 @@
 -- Suffixes taken off from the right, as the code does it.
 -- Assumes nothing.
 use mathlib.Core.Path.{_≡_, refl, sym, _∙_, ap, subst}
-use mathlib.Core.Bool.{Bool, true, false}
 use mathlib.Core.List.{List, [], _∷_, _++_}
 use mathlib.Core.Option.{Option, none, some}
-use Prim.Native.Nat.{ℕ, zero, suc, _+_, _*_, _-_, _≤_, _<_}
+use Prim.Native.Nat.{ℕ, suc, _+_, _-_, _≤_, _<_}
 use native.Mathlib.Omega.{arith}
 use native.Mathlib.Numerals.{add-one}
-use lib.Dec.{eqb}
-use lib.ListN.{length, take, drop, getD, take-append-drop, length-take, length-drop, length-append}
-use lib.Seq.{drop-cons, drop-length, take-suc, take-all, length-take-le, split-at, getD-drop, getD-append-add}
+use lib.ListN.{length, take, drop, getD, length-take, length-drop, length-append}
+use lib.Seq.{drop-cons, drop-length, take-suc, take-all, split-at, getD-drop, getD-append-add}
 use Rattle.kinds.specs.Bytes.{lbracket, rbracket}
 use Rattle.kinds.specs.Decimal.{number}
-use Rattle.kinds.specs.Kind.{Suffix, sized, unsized}
-use Rattle.model.specs.KindText.{Cut, cut, uncut, cutLast, strip, inside, shut, longest, sizedBy, Peeled, peeled, bare, peelBy, peelAt, peel}
+use Rattle.model.specs.KindText.{Cut, cut, uncut, cutLast, strip, inside, longest, sizedBy, bare, peelBy, peelAt, peel}
 use Rattle.model.proofs.Suffixes.{cut-here, cut-not, cut-whole, strip-same, strip-other}
 use Rattle.text.specs.Found.{toOption}
 use Rattle.text.specs.declared.Maybe.{Maybe}

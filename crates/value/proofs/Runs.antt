@@ -2,7 +2,6 @@
 -- Assumes nothing.
 use mathlib.Core.Path.{_≡_, refl, sym, _∙_, ap, subst}
 use mathlib.Core.List.{List, [], _∷_, _++_, append-nil, append-assoc}
-use mathlib.Core.Option.{some}
 use Prim.Native.Nat.{ℕ, _+_, _*_, _-_, _≤_, _<_}
 use native.Mathlib.Omega.{arith}
 use lib.ListN.{length, take, drop, length-append, take-append-drop}
@@ -10,7 +9,7 @@ use lib.Seq.{take-length, drop-length, take-take, length-take-le, drop-at}
 use Rattle.kinds.specs.Bytes.{lbracket, rbracket}
 use Rattle.kinds.specs.Kind.{Suffix, sized, unsized}
 use Rattle.model.specs.declared.Refusal.{Refusal}
-use Rattle.model.specs.KindText.{Result, ok, err, onResult, inside, Peeled, peeled, bare, peel, Spelled, addSuffix, unsuffixed, elementaryOf, fromStr}
+use Rattle.model.specs.KindText.{Result, ok, err, onResult, inside, peeled, peel, Spelled, addSuffix, unsuffixed, elementaryOf, fromStr}
 use Rattle.model.specs.Layout.{littleEndian}
 use Rattle.model.specs.Record.{encodeSuffix, encodeSuffixes}
 use Rattle.model.proofs.Bounds.{record-size}
@@ -20,8 +19,8 @@ use Rattle.value.specs.declared.Spelled.{Spelled as SpelledAs}
 use Rattle.value.specs.declared.Spelled.the-variants.{Kind, Refused}
 use Rattle.value.specs.declared.Peeled.{Peeled as PeeledAs}
 use Rattle.value.specs.declared.Peeled.the-variants.{Sized, Unsized, Bare}
-use Rattle.value.specs.Elementary.{toElementary, toResult}
-use Rattle.value.specs.Peeling.{peelOf, Shorter, PeelIs}
+use Rattle.value.specs.Elementary.{toResult}
+use Rattle.value.specs.Peeling.{peelOf, PeelIs}
 use Rattle.value.specs.Run.{Suffixed, ReadIs}
 
 -- more suffixes, outside those that a kind has

@@ -1,26 +1,25 @@
 -- Suffixes written, from the base outwards.
 -- Assumes nothing.
 use mathlib.Core.Path.{_≡_, refl, sym, _∙_, ap, ap₂, subst}
-use mathlib.Core.Bool.{Bool, true, false, not, _||_}
+use mathlib.Core.Bool.{Bool, true, false}
 use mathlib.Core.List.{List, [], _∷_, _++_, append-assoc, append-nil}
 use mathlib.Core.Option.{Option, none, some}
-use Prim.Native.Nat.{ℕ, zero, suc, _+_, _*_, _-_, _≤_, _<_}
+use Prim.Native.Nat.{ℕ, suc, _+_, _-_, _≤_, _<_}
 use native.Mathlib.Omega.{arith}
 use native.Mathlib.Nat.{add-zero}
-use native.Mathlib.Numerals.{add-one}
 use lib.Dec.{eqb}
-use lib.ListN.{length, take, drop, getD, length-append, length-take, length-drop, take-append-drop}
-use lib.Seq.{drop-drop, drop-cons, take-append-seam, drop-append-seam}
-use borrow.Author.Tests.{eq-eqb, ne-eqb}
+use lib.ListN.{length, take, drop, getD, length-append, length-drop, take-append-drop}
+use lib.Seq.{drop-drop, drop-cons, take-append-seam}
+use borrow.Author.Tests.{ne-eqb}
 use Rattle.kinds.specs.Bytes.{lbracket, rbracket, plus, all, isDigit}
-use Rattle.kinds.specs.Decimal.{unsigned, plain, number, atMost, afterPlus}
+use Rattle.kinds.specs.Decimal.{unsigned, plain, number, afterPlus}
 use Rattle.kinds.specs.Kind.{Suffix, sized, unsized}
-use Rattle.kinds.proofs.Logic.{both, left, right, all-weaken}
+use Rattle.kinds.proofs.Logic.{both, all-weaken}
 use Rattle.model.specs.Text.{span, one}
 use Rattle.model.specs.KindText.{inside, longest, sizedBy}
 use Rattle.model.specs.Layout.{littleEndian, recordOf}
 use Rattle.model.specs.Record.{encodeSuffix, encodeSuffixes}
-use Rattle.model.proofs.Scans.{scan-none, scan-item, span-bytes, span-none, between-both, part-rest, stands-past}
+use Rattle.model.proofs.Scans.{scan-none, scan-item, span-bytes, span-none, between-both, stands-past}
 use Rattle.model.proofs.Bounds.{record-size}
 use Rattle.layout.specs.Buffer.{put, head}
 use Rattle.layout.proofs.Puts.{put-then, length-head, length-put, headed}

@@ -1,15 +1,14 @@
 -- Widths, byte lengths and the kinds that have them, by the tests that the code makes.
 -- Assumes nothing.
 use mathlib.Core.Path.{_≡_, refl, sym, _∙_, ap}
-use mathlib.Core.Bool.{Bool, true, false}
+use mathlib.Core.Bool.{Bool, true}
 use mathlib.Core.List.{List, [], _∷_}
 use mathlib.Core.Option.{Option, none, some}
 use Prim.Native.Nat.{ℕ, zero, suc, _%_, _≤_, _<_}
 use native.Mathlib.Omega.{arith}
-use lib.Dec.{eqb}
 use lib.ListN.{length}
-use borrow.Author.Tests.{le-leb, lt-leb, eq-eqb, ne-eqb}
-use Rattle.kinds.specs.Kind.{BitWidth as KindWidth, isBitWidth, isByteLength, Elementary, int, uint}
+use borrow.Author.Tests.{le-leb, lt-leb, ne-eqb}
+use Rattle.kinds.specs.Kind.{BitWidth as KindWidth, Elementary, int, uint}
 use Rattle.kinds.specs.Bytes.{ascii, same}
 use Rattle.kinds.specs.Decimal.{unsigned, plain, number}
 use Rattle.kinds.proofs.Logic.{same-equal}

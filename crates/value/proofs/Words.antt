@@ -1,12 +1,11 @@
 -- Elementary kinds, by the words that the code compares.
 -- Assumes nothing.
 use mathlib.Core.Path.{_≡_, refl, sym, _∙_, ap}
-use mathlib.Core.Bool.{Bool, true, false, _&&_}
+use mathlib.Core.Bool.{Bool, true, false}
 use mathlib.Core.List.{List, [], _∷_, _++_}
 use mathlib.Core.Option.{Option, none, some}
-use Prim.Native.Nat.{ℕ, zero, suc, _-_, _≤_, _<_}
+use Prim.Native.Nat.{ℕ, _-_, _≤_}
 use native.Mathlib.Omega.{arith}
-use lib.Dec.{eqb}
 use lib.ListN.{length, take, drop, length-take, length-drop, take-append-drop}
 use lib.Seq.{take-all}
 use Rattle.kinds.specs.Bytes.{ascii, same}
@@ -14,7 +13,7 @@ use Rattle.kinds.specs.Decimal.{number}
 use Rattle.kinds.specs.Kind.{BitWidth as KindWidth, Elementary, int, uint, address, bool, function, bytes, string, isBitWidth, isByteLength}
 use Rattle.kinds.proofs.Logic.{same-self, same-equal, same-unequal}
 use Rattle.model.specs.declared.Refusal.the-variants.{Unknown}
-use Rattle.model.specs.KindText.{Result, ok, err, starts, width, byteLength, lookup, kindWords, withNumber, elementaryOf}
+use Rattle.model.specs.KindText.{ok, starts, width, byteLength, withNumber, elementaryOf}
 use Rattle.model.proofs.Scans.{part-rest}
 use Rattle.value.specs.declared.Base.the-variants as base
 use Rattle.value.specs.declared.Spelled.{Spelled}

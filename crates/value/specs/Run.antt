@@ -1,7 +1,7 @@
 -- The kind of a run as the code keeps it: a base by value, and where its suffixes lie in the text.
 -- Assumes nothing.
 use mathlib.Core.Path.{_≡_}
-use mathlib.Core.Bool.{Bool, true, not}
+use mathlib.Core.Bool.{Bool, not}
 use mathlib.Core.List.{List, [], _∷_, _++_}
 use mathlib.Core.Option.{some}
 use Prim.Native.Nat.{ℕ, _+_, _*_, _-_, _≤_}
@@ -9,7 +9,7 @@ use lib.Dec.{eqb}
 use lib.ListN.{length, drop}
 use Rattle.kinds.specs.Bytes.{lbracket, rbracket}
 use Rattle.kinds.specs.Kind.{Suffix}
-use Rattle.model.specs.KindText.{Result, ok, err, inside, Spelled, fromStr}
+use Rattle.model.specs.KindText.{ok, err, inside, fromStr}
 use Rattle.model.specs.Record.{encodeElementary, encodeSuffix, encodeSuffixes, encodeField}
 use Rattle.model.specs.Tree.{field, elementary}
 use Rattle.layout.specs.Buffer.{put}

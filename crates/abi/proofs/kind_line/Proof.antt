@@ -1,42 +1,29 @@
-use native.Mathlib.Omega.{arith}
 use Rattle.abi.proofs.Whole.{kind-full, kind-asks, kind-ends}
 use borrow.Author.Needs.{needs}
 use Rattle.abi.proofs.kind_line.Statement.{statement}
 use Rattle.abi.proofs.kind_line.Tie as tie
-use Rattle.abi.proofs.kind_line.Reads as reads
-use Rattle.abi.proofs.kind_line.Lts as lts
-use Rattle.abi.proofs.refused.Reads as refused-reads
-use Rattle.abi.proofs.write_kind.Reads as write-kind-reads
 
--- src/lib.rt:349:9
 refused-requires : tie.Need-refused-requires
 refused-requires c κs = search needs
 
--- src/lib.rt:349:9
 returns : tie.Need-returns
 returns c = kind-full _ _ _ _ (c .refused .ensures) (c .before .if1 .taken)
 
--- src/lib.rt:351:16
 sub-write-kind : tie.Need-sub-write-kind
 sub-write-kind c = search needs
 
--- src/lib.rt:351:16
 part-write-kind-start : tie.Need-part-write-kind-start
 part-write-kind-start c = search needs
 
--- src/lib.rt:351:16
 part-write-kind-end : tie.Need-part-write-kind-end
 part-write-kind-end c = search needs
 
--- src/lib.rt:351:5
 write-kind-requires : tie.Need-write-kind-requires
 write-kind-requires c κs = kind-asks _ _ _ (c .before .before .if1 .left) (c .before .before .before .before .before .pre)
 
--- src/lib.rt:341:1
 same-length : tie.Need-same-length
 same-length c = search needs
 
--- src/lib.rt:341:1
 returns-2 : tie.Need-returns-2
 returns-2 c = kind-ends _ _ _ (c .before .before .before .before .before .if1 .left) _ _ (c .before .before .write-kind .ensures)
 

@@ -1,66 +1,47 @@
-use Rattle.abi.proofs.Calls.{Declared, no-kind, is-declared, constructor-kind, field-kinded, field-kind, ill-lone}
+use Rattle.abi.proofs.Calls.{no-kind, is-declared, constructor-kind, field-kinded, field-kind, ill-lone}
 use borrow.Author.Needs.{needs}
 use Rattle.abi.proofs.kind_text.Statement.{statement}
 use Rattle.abi.proofs.kind_text.Tie as tie
-use Rattle.abi.proofs.kind_text.Reads as reads
-use Rattle.abi.proofs.kind_text.Lts as lts
-use Rattle.abi.proofs.kind_line.Reads as kind-line-reads
-use Rattle.abi.proofs.refused.Reads as refused-reads
-use Rattle.record.proofs.check.Reads as check-reads
 
--- src/lib.rt:419:9
 check-requires : tie.Need-check-requires
 check-requires c κs = search needs
 
--- src/lib.rt:422:13
 enum-known-c : tie.Need-enum-known-c
 enum-known-c c = search needs
 
--- src/lib.rt:426:14
 refused-requires : tie.Need-refused-requires
 refused-requires c κs = search needs
 
--- src/lib.rt:427:41
 enum-told : tie.Need-enum-told
 enum-told c = search needs
 
--- src/lib.rt:427:33
 refused-requires-2 : tie.Need-refused-requires-2
 refused-requires-2 c κs = search needs
 
--- src/lib.rt:428:26
 enum-known-c-2 : tie.Need-enum-known-c-2
 enum-known-c-2 c = search needs
 
--- src/lib.rt:428:42
 kind-line-requires : tie.Need-kind-line-requires
 kind-line-requires c κs = field-kinded _ _ (c .before .before .before .before .check .ensures) _ _ (c .before .before .c2 .given .1)
 
--- src/lib.rt:429:39
 enum-told-2 : tie.Need-enum-told-2
 enum-told-2 c = search needs
 
--- src/lib.rt:429:31
 refused-requires-3 : tie.Need-refused-requires-3
 refused-requires-3 c κs = search needs
 
--- src/lib.rt:415:1
 returns : tie.Need-returns
 returns c = no-kind _ _ _ ((is-declared _ _ (c .before .before .before .before .check .ensures) _ _ _ _ (c .before .before .c .given .1)) .lone) (c .refused .ensures)
 
--- src/lib.rt:415:1
 returns-2 : tie.Need-returns-2
 returns-2 c = constructor-kind _ _ (c .before .before .before .check .ensures) (c .before .enum-told .given .1) _ _ (c .refused2 .ensures)
 
--- src/lib.rt:415:1
 same-length : tie.Need-same-length
 same-length c = search needs
 
--- src/lib.rt:415:1
 returns-3 : tie.Need-returns-3
 returns-3 c = field-kind _ _ (c .before .before .before .before .before .before .before .check .ensures) _ _ (c .before .before .before .before .before .c2 .given .1) _ _ _ (c .before .before .kind-line .ensures)
 
--- src/lib.rt:415:1
 returns-4 : tie.Need-returns-4
 returns-4 c = no-kind _ _ _ (ill-lone _ _ (c .before .before .before .check .ensures) (c .before .enum-told2 .given .1)) (c .refused3 .ensures)
 

@@ -2,43 +2,31 @@ use Rattle.abi.proofs.Calls.{declared-name, is-declared, constructor-na
 use borrow.Author.Needs.{needs}
 use Rattle.abi.proofs.named.Statement.{statement}
 use Rattle.abi.proofs.named.Tie as tie
-use Rattle.abi.proofs.named.Reads as reads
-use Rattle.abi.proofs.named.Lts as lts
-use Rattle.record.proofs.check.Reads as check-reads
 
--- src/lib.rt:437:9
 check-requires : tie.Need-check-requires
 check-requires c κs = search needs
 
--- src/lib.rt:440:13
 enum-known-c : tie.Need-enum-known-c
 enum-known-c c = search needs
 
--- src/lib.rt:449:13
 enum-told : tie.Need-enum-told
 enum-told c = search needs
 
--- src/lib.rt:452:26
 enum-known-c-2 : tie.Need-enum-known-c-2
 enum-known-c-2 c = search needs
 
--- src/lib.rt:457:13
 enum-told-2 : tie.Need-enum-told-2
 enum-told-2 c = search needs
 
--- src/lib.rt:434:1
 returns : tie.Need-returns
 returns c = declared-name _ _ _ (is-declared _ _ (c .before .before .before .check .ensures) _ _ _ _ (c .before .c .given .1))
 
--- src/lib.rt:434:1
 returns-2 : tie.Need-returns-2
 returns-2 c = constructor-name _ _ (c .before .before .check .ensures) (c .enum-told .given .1)
 
--- src/lib.rt:434:1
 returns-3 : tie.Need-returns-3
 returns-3 c = field-name _ _ (c .before .before .before .check .ensures) _ _ (c .before .c2 .given .1)
 
--- src/lib.rt:434:1
 returns-4 : tie.Need-returns-4
 returns-4 c = ill-name _ _ (c .before .before .check .ensures) (c .enum-told2 .given .1)
 

@@ -3,69 +3,49 @@ use Rattle.abi.proofs.Whole.{signature-adds, signature-line, signature-
 use borrow.Author.Needs.{needs}
 use Rattle.abi.proofs.signature_line.Statement.{statement}
 use Rattle.abi.proofs.signature_line.Tie as tie
-use Rattle.abi.proofs.signature_line.Reads as reads
-use Rattle.abi.proofs.signature_line.Lts as lts
-use Rattle.abi.proofs.refused.Reads as refused-reads
-use Rattle.abi.proofs.write_fields.Reads as write-fields-reads
-use Rattle.abi.proofs.write_line.Reads as write-line-reads
 
--- src/lib.rt:329:18
 sub-length : tie.Need-sub-length
 sub-length c = search needs
 
--- src/lib.rt:329:18
 add-length : tie.Need-add-length
 add-length c = search needs
 
--- src/lib.rt:329:18
 add-length-2 : tie.Need-add-length-2
 add-length-2 c = search needs
 
--- src/lib.rt:329:18
 add-length-3 : tie.Need-add-length-3
 add-length-3 c = search needs
 
--- src/lib.rt:331:9
 refused-requires : tie.Need-refused-requires
 refused-requires c κs = search needs
 
--- src/lib.rt:331:9
 returns : tie.Need-returns
 returns c = signature-full _ _ _ _ _ _ (c .refused .ensures) (c .before .if1 .taken)
 
--- src/lib.rt:333:9
 write-line-requires : tie.Need-write-line-requires
 write-line-requires c κs = signature-line _ _ _ _ (c .before .before .before .before .before .before .pre) _ (c .before .if1 .left)
 
--- src/lib.rt:334:5
 slice-write-text : tie.Need-slice-write-text
 slice-write-text c = signature-colon _ _ _ _ (c .before .before .before .before .before .before .before .before .before .pre) _ (c .before .before .before .before .if1 .left) _ _ (c .before .before .write-line .ensures)
 
--- src/lib.rt:337:18
 sub-write-fields : tie.Need-sub-write-fields
 sub-write-fields c = search needs
 
--- src/lib.rt:337:18
 part-write-fields-start : tie.Need-part-write-fields-start
 part-write-fields-start c = search needs
 
--- src/lib.rt:337:18
 part-write-fields-end : tie.Need-part-write-fields-end
 part-write-fields-end c = search needs
 
--- src/lib.rt:337:46
 add-write-fields : tie.Need-add-write-fields
 add-write-fields c = record { fits = omega (arith, signature-place _ _ _ _ (c .before .before .before .before .before .before .before .before .before .before .before .pre) _ (c .before .before .before .before .before .before .if1 .left) _ _ (c .before .before .before .before .write-line .ensures), signature-adds _ _ _ _ (c .before .before .before .before .before .before .before .before .before .before .before .pre)) }
 
--- src/lib.rt:337:5
 write-fields-requires : tie.Need-write-fields-requires
 write-fields-requires c κs = signature-asks _ _ _ _ (c .before .before .before .before .before .before .before .before .before .before .before .pre) _ (c .before .before .before .before .before .before .if1 .left) _ _ (c .before .before .before .before .write-line .ensures)
 
--- src/lib.rt:315:1
 same-length : tie.Need-same-length
 same-length c = signature-size _ _ _ _ (c .before .before .before .before .before .before .before .before .before .before .before .before .before .before .pre) _ (c .before .before .before .before .before .before .before .before .before .if1 .left) _ _ (c .before .before .before .before .before .before .before .write-line .ensures) _ _ (c .before .before .write-fields .ensures)
 
--- src/lib.rt:315:1
 returns-2 : tie.Need-returns-2
 returns-2 c = signature-ends _ _ _ _ _ _ _ _ _ (c .before .before .before .before .before .before .before .before .before .if1 .left) (c .before .before .before .before .before .before .before .write-line .ensures) (c .before .before .write-fields .ensures)
 

@@ -2,9 +2,6 @@ use borrow.Author.Needs.{needs}
 use Rattle.abi.proofs.Stores.{Digits, storing}
 use Rattle.abi.proofs.write_decimal.Statement.{statement}
 use Rattle.abi.proofs.write_decimal.Tie as tie
-use Rattle.abi.proofs.write_decimal.Reads as reads
-use Rattle.abi.proofs.write_decimal.Lts as lts
-use Rattle.record.proofs.decimal_length.Reads as decimal-length-reads
 
 abbrev Inv-loop : tie.InvT-loop
 Inv-loop out₀ o v end i₀ rest₀ out i rest = Digits out₀ o v end out i rest
@@ -12,59 +9,45 @@ Inv-loop out₀ o v end i₀ rest₀ out i rest = Digits out₀ o v end out i re
 abbrev μ-loop : tie.MeasureT-loop
 μ-loop out₀ o v end i₀ rest₀ out i rest = rest
 
--- src/lib.rt:133:19
 decimal-length-requires : tie.Need-decimal-length-requires Inv-loop μ-loop
 decimal-length-requires c κs = search (needs, storing)
 
--- src/lib.rt:133:15
 add-end : tie.Need-add-end Inv-loop μ-loop
 add-end c = search (needs, storing)
 
--- src/lib.rt:136:5
 loop-holds : tie.Need-loop-holds Inv-loop μ-loop
 loop-holds c = search (needs, storing)
 
--- src/lib.rt:137:9
 sub-i : tie.Need-sub-i Inv-loop μ-loop
 sub-i c = search (needs, storing)
 
--- src/lib.rt:138:19
 add-out : tie.Need-add-out Inv-loop μ-loop
 add-out c = search (needs, storing)
 
--- src/lib.rt:138:18
 cast-out : tie.Need-cast-out Inv-loop μ-loop
 cast-out c = search (needs, storing)
 
--- src/lib.rt:138:9
 slice-write-out : tie.Need-slice-write-out Inv-loop μ-loop
 slice-write-out c = search (needs, storing)
 
--- src/lib.rt:136:5
 loop-less : tie.Need-loop-less Inv-loop μ-loop
 loop-less c = search (needs, storing)
 
--- src/lib.rt:136:5
 loop-again : tie.Need-loop-again Inv-loop μ-loop
 loop-again c = search (needs, storing)
 
--- src/lib.rt:141:15
 add-out-2 : tie.Need-add-out-2 Inv-loop μ-loop
 add-out-2 c = search (needs, storing)
 
--- src/lib.rt:141:14
 cast-out-2 : tie.Need-cast-out-2 Inv-loop μ-loop
 cast-out-2 c = search (needs, storing)
 
--- src/lib.rt:141:5
 slice-write-out-2 : tie.Need-slice-write-out-2 Inv-loop μ-loop
 slice-write-out-2 c = search (needs, storing)
 
--- src/lib.rt:129:1
 same-length : tie.Need-same-length Inv-loop μ-loop
 same-length c = search (needs, storing)
 
--- src/lib.rt:129:1
 returns : tie.Need-returns Inv-loop μ-loop
 returns c = search (needs, storing)
 

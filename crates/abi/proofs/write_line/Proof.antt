@@ -1,53 +1,38 @@
-use Rattle.abi.proofs.Whole.{line-copies, line-asks, line-wrote}
+use Rattle.abi.proofs.Whole.{line-asks, line-wrote}
 use borrow.Author.Needs.{needs}
 use Rattle.abi.proofs.write_line.Statement.{statement}
 use Rattle.abi.proofs.write_line.Tie as tie
-use Rattle.abi.proofs.write_line.Reads as reads
-use Rattle.abi.proofs.write_line.Lts as lts
-use Rattle.abi.proofs.write_fields.Reads as write-fields-reads
-use Rattle.layout.proofs.copy.Reads as copy-reads
 
--- src/lib.rt:294:27
 sub-copy : tie.Need-sub-copy
 sub-copy c = search needs
 
--- src/lib.rt:294:27
 part-copy-start : tie.Need-part-copy-start
 part-copy-start c = search needs
 
--- src/lib.rt:294:27
 part-copy-end : tie.Need-part-copy-end
 part-copy-end c = search needs
 
--- src/lib.rt:294:5
 copy-requires : tie.Need-copy-requires
 copy-requires c κs = search needs
 
--- src/lib.rt:295:18
 sub-write-fields : tie.Need-sub-write-fields
 sub-write-fields c = search needs
 
--- src/lib.rt:295:18
 part-write-fields-start : tie.Need-part-write-fields-start
 part-write-fields-start c = search needs
 
--- src/lib.rt:295:18
 part-write-fields-end : tie.Need-part-write-fields-end
 part-write-fields-end c = search needs
 
--- src/lib.rt:295:45
 sub-write-fields-2 : tie.Need-sub-write-fields-2
 sub-write-fields-2 c = search needs
 
--- src/lib.rt:295:5
 write-fields-requires : tie.Need-write-fields-requires
 write-fields-requires c κs = line-asks _ _ _ _ _ _ (c .before .before .before .before .before .before .before .before .before .pre) _ (c .before .before .before .before .copy .ensures)
 
--- src/lib.rt:283:1
 same-length : tie.Need-same-length
 same-length c = search needs
 
--- src/lib.rt:283:1
 returns : tie.Need-returns
 returns c = line-wrote _ _ _ _ _ _ (c .before .before .before .before .before .before .before .before .before .before .before .before .pre) _ (c .before .before .before .before .before .before .before .copy .ensures) _ _ (c .before .before .write-fields .ensures)
 

@@ -4,77 +4,55 @@ use Rattle.abi.proofs.Leaves.{number-int, number-uint, number-bytes, nu
 use borrow.Author.Needs.{needs}
 use Rattle.abi.proofs.write_numbered.Statement.{statement}
 use Rattle.abi.proofs.write_numbered.Tie as tie
-use Rattle.abi.proofs.write_numbered.Reads as reads
-use Rattle.abi.proofs.write_numbered.Lts as lts
-use Rattle.abi.proofs.write_small.Reads as write-small-reads
-use Rattle.abi.proofs.write_word.Reads as write-word-reads
-use Rattle.layout.proofs.get2.Reads as get2-reads
 
--- src/lib.rt:82:9
 get2-requires : tie.Need-get2-requires
 get2-requires c κs = search needs
 
--- src/lib.rt:85:40
 slice-aggregate-write-word : tie.Need-slice-aggregate-write-word
 slice-aggregate-write-word c = search needs
 
--- src/lib.rt:85:17
 write-word-requires : tie.Need-write-word-requires
 write-word-requires c κs = omega (arith, number-room _ _ _ _ (c .before .before .before .before .before .before .pre .0) _ (number-int _ _ _ _ (c .before .before .before .before .before .before .pre .0) (c .before .before .match .keys1)))
 
--- src/lib.rt:86:13
 write-small-requires : tie.Need-write-small-requires
 write-small-requires c κs = number-asks _ _ _ _ (c .before .before .before .before .before .before .before .before .before .before .pre .0) _ (number-int _ _ _ _ (c .before .before .before .before .before .before .before .before .before .before .pre .0) (c .before .before .before .before .before .before .match .keys1)) _ _ _ (c .before .before .before .write-word .ensures .0) (c .before .before .before .write-word .ensures .1) (c .before .before .before .before .before .before .before .get2 .ensures .0)
 
--- src/lib.rt:89:40
 slice-aggregate-write-word-2 : tie.Need-slice-aggregate-write-word-2
 slice-aggregate-write-word-2 c = search needs
 
--- src/lib.rt:89:17
 write-word-requires-2 : tie.Need-write-word-requires-2
 write-word-requires-2 c κs = omega (arith, number-room _ _ _ _ (c .before .before .before .before .before .before .pre .0) _ (number-uint _ _ _ _ (c .before .before .before .before .before .before .pre .0) (c .before .before .match .keys2)))
 
--- src/lib.rt:90:13
 write-small-requires-2 : tie.Need-write-small-requires-2
 write-small-requires-2 c κs = number-asks _ _ _ _ (c .before .before .before .before .before .before .before .before .before .before .pre .0) _ (number-uint _ _ _ _ (c .before .before .before .before .before .before .before .before .before .before .pre .0) (c .before .before .before .before .before .before .match .keys2)) _ _ _ (c .before .before .before .write-word2 .ensures .0) (c .before .before .before .write-word2 .ensures .1) (c .before .before .before .before .before .before .before .get2 .ensures .0)
 
--- src/lib.rt:93:40
 slice-aggregate-write-word-3 : tie.Need-slice-aggregate-write-word-3
 slice-aggregate-write-word-3 c = search needs
 
--- src/lib.rt:93:17
 write-word-requires-3 : tie.Need-write-word-requires-3
 write-word-requires-3 c κs = omega (arith, number-room _ _ _ _ (c .before .before .before .before .before .before .pre .0) _ (number-bytes _ _ _ _ (c .before .before .before .before .before .before .pre .0) (c .before .before .match .keys3)))
 
--- src/lib.rt:94:13
 write-small-requires-3 : tie.Need-write-small-requires-3
 write-small-requires-3 c κs = number-asks _ _ _ _ (c .before .before .before .before .before .before .before .before .before .before .pre .0) _ (number-bytes _ _ _ _ (c .before .before .before .before .before .before .before .before .before .before .pre .0) (c .before .before .before .before .before .before .match .keys3)) _ _ _ (c .before .before .before .write-word3 .ensures .0) (c .before .before .before .write-word3 .ensures .1) (c .before .before .before .before .before .before .before .get2 .ensures .0)
 
--- src/lib.rt:78:1
 same-length : tie.Need-same-length
 same-length c = search needs
 
--- src/lib.rt:78:1
 returns : tie.Need-returns
 returns c = number-wrote _ _ _ _ (c .before .before .before .before .before .before .before .before .before .before .before .before .before .pre .0) _ (number-int _ _ _ _ (c .before .before .before .before .before .before .before .before .before .before .before .before .before .pre .0) (c .before .before .before .before .before .before .before .before .before .match .keys1)) _ _ _ _ _ (c .before .before .before .before .before .before .write-word .ensures .0) (c .before .before .before .before .before .before .write-word .ensures .1) (c .before .before .before .before .before .before .before .before .before .before .get2 .ensures .0) (c .before .before .write-small .ensures .0) (c .before .before .write-small .ensures .1)
 
--- src/lib.rt:78:1
 same-length-2 : tie.Need-same-length-2
 same-length-2 c = search needs
 
--- src/lib.rt:78:1
 returns-2 : tie.Need-returns-2
 returns-2 c = number-wrote _ _ _ _ (c .before .before .before .before .before .before .before .before .before .before .before .before .before .pre .0) _ (number-uint _ _ _ _ (c .before .before .before .before .before .before .before .before .before .before .before .before .before .pre .0) (c .before .before .before .before .before .before .before .before .before .match .keys2)) _ _ _ _ _ (c .before .before .before .before .before .before .write-word2 .ensures .0) (c .before .before .before .before .before .before .write-word2 .ensures .1) (c .before .before .before .before .before .before .before .before .before .before .get2 .ensures .0) (c .before .before .write-small2 .ensures .0) (c .before .before .write-small2 .ensures .1)
 
--- src/lib.rt:78:1
 same-length-3 : tie.Need-same-length-3
 same-length-3 c = search needs
 
--- src/lib.rt:78:1
 returns-3 : tie.Need-returns-3
 returns-3 c = number-wrote _ _ _ _ (c .before .before .before .before .before .before .before .before .before .before .before .before .before .pre .0) _ (number-bytes _ _ _ _ (c .before .before .before .before .before .before .before .before .before .before .before .before .before .pre .0) (c .before .before .before .before .before .before .before .before .before .match .keys3)) _ _ _ _ _ (c .before .before .before .before .before .before .write-word3 .ensures .0) (c .before .before .before .before .before .before .write-word3 .ensures .1) (c .before .before .before .before .before .before .before .before .before .before .get2 .ensures .0) (c .before .before .write-small3 .ensures .0) (c .before .before .write-small3 .ensures .1)
 
--- src/lib.rt:78:1
 returns-4 : tie.Need-returns-4
 returns-4 c = elementary-missing _ _ _ _ _ _ (elementary-numbered _ _ (λ z. omega (arith, (c .before .before .before .before .pre .1))) (c .match .rest .0 .0 .1) (c .match .rest .0 .1) (c .match .rest .1))
 

@@ -1,163 +1,122 @@
 use Rattle.abi.proofs.Stores.{small-256, small-1, small-2, small-3}
 use native.Mathlib.Omega.{arith}
 use lib.ListN.{length-set}
-use Rattle.abi.proofs.Stores.{storing}
 use Rattle.record.proofs.Lengths.{small-one, small-two, small-three}
 use borrow.Author.Needs.{needs}
 use Rattle.abi.proofs.write_small.Statement.{statement}
 use Rattle.abi.proofs.write_small.Tie as tie
-use Rattle.abi.proofs.write_small.Reads as reads
-use Rattle.abi.proofs.write_small.Lts as lts
 
--- src/lib.rt:107:9
 slice-write-out : tie.Need-slice-write-out
 slice-write-out c = omega (arith, small-three (c .before .args .v) (omega arith) (omega arith))
 
--- src/lib.rt:108:13
 add-out : tie.Need-add-out
 add-out c = search needs
 
--- src/lib.rt:108:9
 slice-write-out-2 : tie.Need-slice-write-out-2
 slice-write-out-2 c = simp length-set (omega (arith, small-three (c .before .args .v) (omega arith) (omega arith)))
 
--- src/lib.rt:109:13
 add-out-2 : tie.Need-add-out-2
 add-out-2 c = search needs
 
--- src/lib.rt:109:9
 slice-write-out-3 : tie.Need-slice-write-out-3
 slice-write-out-3 c = simp length-set (omega (arith, small-three (c .before .args .v) (omega arith) (omega arith)))
 
--- src/lib.rt:110:16
 add-result : tie.Need-add-result
 add-result c = search needs
 
--- src/lib.rt:110:9
 same-length : tie.Need-same-length
 same-length c = search needs
 
--- src/lib.rt:110:9
 returns : tie.Need-returns
 returns c = (small-256 _ _ _ (c .before .pre .1) (c .if1 .taken), omega (arith, small-three (c .before .args .v) (omega arith) (omega arith)))
 
--- src/lib.rt:113:19
 add-out-3 : tie.Need-add-out-3
 add-out-3 c = search needs
 
--- src/lib.rt:113:18
 cast-out : tie.Need-cast-out
 cast-out c = search needs
 
--- src/lib.rt:113:9
 slice-write-out-4 : tie.Need-slice-write-out-4
 slice-write-out-4 c = omega (arith, small-one (c .before .before .args .v) (omega arith))
 
--- src/lib.rt:114:16
 add-result-2 : tie.Need-add-result-2
 add-result-2 c = search needs
 
--- src/lib.rt:114:9
 same-length-2 : tie.Need-same-length-2
 same-length-2 c = search needs
 
--- src/lib.rt:114:9
 returns-2 : tie.Need-returns-2
 returns-2 c = (small-1 _ _ _ (c .before .before .pre .1) (c .if2 .taken), omega (arith, small-one (c .before .before .args .v) (omega arith)))
 
--- src/lib.rt:118:19
 add-out-4 : tie.Need-add-out-4
 add-out-4 c = search needs
 
--- src/lib.rt:118:18
 cast-out-2 : tie.Need-cast-out-2
 cast-out-2 c = search needs
 
--- src/lib.rt:118:9
 slice-write-out-5 : tie.Need-slice-write-out-5
 slice-write-out-5 c = omega (arith, small-two (c .before .before .before .args .v) (omega arith) (omega arith))
 
--- src/lib.rt:119:23
 add-out-5 : tie.Need-add-out-5
 add-out-5 c = search needs
 
--- src/lib.rt:119:22
 cast-out-3 : tie.Need-cast-out-3
 cast-out-3 c = search needs
 
--- src/lib.rt:119:13
 add-out-6 : tie.Need-add-out-6
 add-out-6 c = search needs
 
--- src/lib.rt:119:9
 slice-write-out-6 : tie.Need-slice-write-out-6
 slice-write-out-6 c = simp length-set (omega (arith, small-two (c .before .before .before .args .v) (omega arith) (omega arith)))
 
--- src/lib.rt:120:16
 add-result-3 : tie.Need-add-result-3
 add-result-3 c = search needs
 
--- src/lib.rt:120:9
 same-length-3 : tie.Need-same-length-3
 same-length-3 c = search needs
 
--- src/lib.rt:120:9
 returns-3 : tie.Need-returns-3
 returns-3 c = (small-2 _ _ _ (c .before .before .before .pre .1) (c .before .if2 .left) (c .if3 .taken), omega (arith, small-two (c .before .before .before .args .v) (omega arith) (omega arith)))
 
--- src/lib.rt:122:15
 add-out-7 : tie.Need-add-out-7
 add-out-7 c = search needs
 
--- src/lib.rt:122:14
 cast-out-4 : tie.Need-cast-out-4
 cast-out-4 c = search needs
 
--- src/lib.rt:122:5
 slice-write-out-7 : tie.Need-slice-write-out-7
 slice-write-out-7 c = omega (arith, small-three (c .before .before .before .args .v) (omega arith) (omega arith))
 
--- src/lib.rt:123:19
 add-out-8 : tie.Need-add-out-8
 add-out-8 c = search needs
 
--- src/lib.rt:123:18
 cast-out-5 : tie.Need-cast-out-5
 cast-out-5 c = search needs
 
--- src/lib.rt:123:9
 add-out-9 : tie.Need-add-out-9
 add-out-9 c = search needs
 
--- src/lib.rt:123:5
 slice-write-out-8 : tie.Need-slice-write-out-8
 slice-write-out-8 c = simp length-set (omega (arith, small-three (c .before .before .before .args .v) (omega arith) (omega arith)))
 
--- src/lib.rt:124:19
 add-out-10 : tie.Need-add-out-10
 add-out-10 c = search needs
 
--- src/lib.rt:124:18
 cast-out-6 : tie.Need-cast-out-6
 cast-out-6 c = search needs
 
--- src/lib.rt:124:9
 add-out-11 : tie.Need-add-out-11
 add-out-11 c = search needs
 
--- src/lib.rt:124:5
 slice-write-out-9 : tie.Need-slice-write-out-9
 slice-write-out-9 c = simp length-set (omega (arith, small-three (c .before .before .before .args .v) (omega arith) (omega arith)))
 
--- src/lib.rt:125:5
 add-result-4 : tie.Need-add-result-4
 add-result-4 c = search needs
 
--- src/lib.rt:102:1
 same-length-4 : tie.Need-same-length-4
 same-length-4 c = search needs
 
--- src/lib.rt:102:1
 returns-4 : tie.Need-returns-4
 returns-4 c = (small-3 _ _ _ (c .before .before .before .pre .1) (c .if3 .left) (c .before .before .before .pre .0), omega (arith, small-three (c .before .before .before .args .v) (omega arith) (omega arith)))
 

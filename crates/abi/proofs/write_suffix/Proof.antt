@@ -4,63 +4,46 @@ use Rattle.abi.proofs.Leaves.{suffix-long, sized-value, sized-room, siz
 use borrow.Author.Needs.{needs}
 use Rattle.abi.proofs.write_suffix.Statement.{statement}
 use Rattle.abi.proofs.write_suffix.Tie as tie
-use Rattle.abi.proofs.write_suffix.Reads as reads
-use Rattle.abi.proofs.write_suffix.Lts as lts
-use Rattle.abi.proofs.write_decimal.Reads as write-decimal-reads
 
--- src/lib.rt:181:13
 slice-write-out : tie.Need-slice-write-out
 slice-write-out c = omega (arith, sized-room _ _ _ _ (c .before .before .before .pre) (c .match .keys1))
 
--- src/lib.rt:182:40
 add-write-decimal : tie.Need-add-write-decimal
 add-write-decimal c = search needs
 
--- src/lib.rt:182:47
 get8-requires : tie.Need-get8-requires
 get8-requires c κs = omega (arith, suffix-long _ _ _ _ (c .before .before .before .before .pre) (c .before .match .keys1))
 
--- src/lib.rt:182:17
 write-decimal-requires : tie.Need-write-decimal-requires
 write-decimal-requires c κs = sized-asks _ _ _ _ (c .before .before .before .before .before .pre) _ (c .before .before .match .keys1) (sized-value _ _ _ _ (c .before .before .before .before .before .pre) _ (c .before .before .match .keys1) (c .get8 .ensures))
 
--- src/lib.rt:183:13
 slice-write-out-2 : tie.Need-slice-write-out-2
 slice-write-out-2 c = omega (arith, sized-inside _ _ _ _ (c .before .before .before .before .before .before .before .before .pre) _ _ (c .before .before .before .before .before .match .keys1) (sized-value _ _ _ _ (c .before .before .before .before .before .before .before .before .pre) _ (c .before .before .before .before .before .match .keys1) (c .before .before .before .get8 .ensures)) (c .before .before .write-decimal .ensures .1), sized-length _ _ _ _ (c .before .before .before .before .before .before .before .before .pre) _ 0 _ (c .before .before .before .before .before .match .keys1) (sized-value _ _ _ _ (c .before .before .before .before .before .before .before .before .pre) _ (c .before .before .before .before .before .match .keys1) (c .before .before .before .get8 .ensures)) (c .before .before .write-decimal .ensures .0))
 
--- src/lib.rt:184:13
 add-result : tie.Need-add-result
 add-result c = record { fits = omega (arith, sized-inside _ _ _ _ (c .before .before .before .before .before .before .before .before .pre) _ _ (c .before .before .before .before .before .match .keys1) (sized-value _ _ _ _ (c .before .before .before .before .before .before .before .before .pre) _ (c .before .before .before .before .before .match .keys1) (c .before .before .before .get8 .ensures)) (c .before .before .write-decimal .ensures .1)) }
 
--- src/lib.rt:187:13
 slice-write-out-3 : tie.Need-slice-write-out-3
 slice-write-out-3 c = omega (arith, open-room _ _ _ _ (c .before .before .before .pre) (c .match .rest .1))
 
--- src/lib.rt:188:17
 add-out : tie.Need-add-out
 add-out c = search needs
 
--- src/lib.rt:188:13
 slice-write-out-4 : tie.Need-slice-write-out-4
 slice-write-out-4 c = simp length-set (omega (arith, open-room _ _ _ _ (c .before .before .before .pre) (c .match .rest .1)))
 
--- src/lib.rt:189:13
 add-result-2 : tie.Need-add-result-2
 add-result-2 c = search needs
 
--- src/lib.rt:175:1
 same-length : tie.Need-same-length
 same-length c = simp length-set (sized-length _ _ _ _ (c .before .before .before .before .before .before .before .before .pre) _ 0 _ (c .before .before .before .before .before .match .keys1) (sized-value _ _ _ _ (c .before .before .before .before .before .before .before .before .pre) _ (c .before .before .before .before .before .match .keys1) (c .before .before .before .get8 .ensures)) (c .before .before .write-decimal .ensures .0))
 
--- src/lib.rt:175:1
 returns : tie.Need-returns
 returns c = sized-wrote _ _ _ _ (c .before .before .before .before .before .before .before .before .pre) _ _ _ (c .before .before .before .before .before .match .keys1) (sized-value _ _ _ _ (c .before .before .before .before .before .before .before .before .pre) _ (c .before .before .before .before .before .match .keys1) (c .before .before .before .get8 .ensures)) (c .before .before .write-decimal .ensures .0) (c .before .before .write-decimal .ensures .1)
 
--- src/lib.rt:175:1
 same-length-2 : tie.Need-same-length-2
 same-length-2 c = search needs
 
--- src/lib.rt:175:1
 returns-2 : tie.Need-returns-2
 returns-2 c = open-wrote _ _ _ _ (c .before .before .before .pre) (c .match .rest .1)
 

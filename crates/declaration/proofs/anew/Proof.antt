@@ -2,27 +2,19 @@ use mathlib.Core.Path.{sym, _∙_}
 use borrow.Author.Needs.{needs}
 use Rattle.declaration.proofs.anew.Statement.{statement}
 use Rattle.declaration.proofs.anew.Tie as tie
-use Rattle.declaration.proofs.anew.Reads as reads
-use Rattle.declaration.proofs.anew.Lts as lts
-use Rattle.declaration.proofs.refused.Reads as refused-reads
 
--- src/lib.rt:454:28
 enum-known-answer : tie.Need-enum-known-answer
 enum-known-answer c = search needs
 
--- src/lib.rt:455:27
 enum-known-answer-2 : tie.Need-enum-known-answer-2
 enum-known-answer-2 c = search needs
 
--- src/lib.rt:455:50
 refused-requires : tie.Need-refused-requires
 refused-requires c κs = search needs
 
--- src/lib.rt:450:1
 returns : tie.Need-returns
 returns c = sym (c .before .answer .given .1)
 
--- src/lib.rt:450:1
 returns-2 : tie.Need-returns-2
 returns-2 c = (c .refused .ensures) ∙ sym (c .before .before .answer2 .given .1)
 

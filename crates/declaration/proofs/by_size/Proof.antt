@@ -3,41 +3,28 @@ use Rattle.model.specs.Answer.{said}
 use borrow.Author.Needs.{needs}
 use Rattle.declaration.proofs.by_size.Statement.{statement}
 use Rattle.declaration.proofs.by_size.Tie as tie
-use Rattle.declaration.proofs.by_size.Reads as reads
-use Rattle.declaration.proofs.by_size.Lts as lts
-use Rattle.declaration.proofs.anew.Reads as anew-reads
-use Rattle.declaration.proofs.long.Reads as long-reads
-use Rattle.declaration.proofs.short.Reads as short-reads
 
--- src/lib.rt:465:21
 short-requires : tie.Need-short-requires
 short-requires c κs = search needs
 
--- src/lib.rt:465:9
 anew-requires : tie.Need-anew-requires
 anew-requires c κs = search needs
 
--- src/lib.rt:465:9
 same-length : tie.Need-same-length
 same-length c = search needs
 
--- src/lib.rt:465:9
 returns : tie.Need-returns
 returns c = (ap said (c .anew .ensures) ∙ (c .before .before .before .short .ensures .0), (c .before .before .before .short .ensures .1))
 
--- src/lib.rt:467:10
 long-requires : tie.Need-long-requires
 long-requires c κs = search needs
 
--- src/lib.rt:467:5
 anew-requires-2 : tie.Need-anew-requires-2
 anew-requires-2 c κs = search needs
 
--- src/lib.rt:459:1
 same-length-2 : tie.Need-same-length-2
 same-length-2 c = search needs
 
--- src/lib.rt:459:1
 returns-2 : tie.Need-returns-2
 returns-2 c = (ap said (c .anew2 .ensures) ∙ (c .before .before .before .long .ensures .0), (c .before .before .before .long .ensures .1))
 

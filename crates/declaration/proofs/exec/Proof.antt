@@ -2,44 +2,31 @@ use Rattle.declaration.proofs.Bodies.{bodies}
 use borrow.Author.Needs.{needs}
 use Rattle.declaration.proofs.exec.Statement.{statement}
 use Rattle.declaration.proofs.exec.Tie as tie
-use Rattle.declaration.proofs.exec.Reads as reads
-use Rattle.declaration.proofs.exec.Lts as lts
-use Rattle.declaration.proofs.body.Reads as body-reads
-use Rattle.declaration.proofs.keyword.Reads as keyword-reads
 
--- src/lib.rt:338:9
 keyword-requires : tie.Need-keyword-requires
 keyword-requires c κs = search needs
 
--- src/lib.rt:340:21
 enum-known-r : tie.Need-enum-known-r
 enum-known-r c = search needs
 
--- src/lib.rt:340:39
 body-requires : tie.Need-body-requires
 body-requires c κs = search (needs, bodies)
 
--- src/lib.rt:341:30
 enum-known-r-2 : tie.Need-enum-known-r-2
 enum-known-r-2 c = search needs
 
--- src/lib.rt:342:26
 enum-known-r-3 : tie.Need-enum-known-r-3
 enum-known-r-3 c = search needs
 
--- src/lib.rt:334:1
 same-length : tie.Need-same-length
 same-length c = search needs
 
--- src/lib.rt:334:1
 returns : tie.Need-returns
 returns c = search (needs, bodies)
 
--- src/lib.rt:334:1
 returns-2 : tie.Need-returns-2
 returns-2 c = search (needs, bodies)
 
--- src/lib.rt:334:1
 returns-3 : tie.Need-returns-3
 returns-3 c = search (needs, bodies)
 

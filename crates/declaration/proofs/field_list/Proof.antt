@@ -2,76 +2,55 @@ use Rattle.declaration.proofs.Parts.{parts}
 use borrow.Author.Needs.{needs}
 use Rattle.declaration.proofs.field_list.Statement.{statement}
 use Rattle.declaration.proofs.field_list.Tie as tie
-use Rattle.declaration.proofs.field_list.Reads as reads
-use Rattle.declaration.proofs.field_list.Lts as lts
-use Rattle.fields.proofs.list.Reads as list-reads
-use Rattle.layout.proofs.header.Reads as header-reads
 
--- src/lib.rt:83:33
 add-list : tie.Need-add-list
 add-list c = search needs
 
--- src/lib.rt:83:58
 add-list-2 : tie.Need-add-list-2
 add-list-2 c = search needs
 
--- src/lib.rt:83:13
 list-requires : tie.Need-list-requires
 list-requires c κs = search needs
 
--- src/lib.rt:85:25
 enum-known-r : tie.Need-enum-known-r
 enum-known-r c = search needs
 
--- src/lib.rt:86:40
 add-header : tie.Need-add-header
 add-header c = let w = rw (c .before .before .r .given .1) at (c .before .before .before .before .before .before .list .ensures .within) in search needs
 
--- src/lib.rt:86:17
 header-requires : tie.Need-header-requires
 header-requires c κs = search needs
 
--- src/lib.rt:87:40
 add-t22 : tie.Need-add-t22
 add-t22 c = let w = rw (c .before .before .before .before .before .r .given .1) at (c .before .before .before .before .before .before .before .before .before .list .ensures .within) in search needs
 
--- src/lib.rt:89:34
 enum-known-r-2 : tie.Need-enum-known-r-2
 enum-known-r-2 c = search needs
 
--- src/lib.rt:90:30
 enum-known-r-3 : tie.Need-enum-known-r-3
 enum-known-r-3 c = search needs
 
--- src/lib.rt:84:9
 same-length : tie.Need-same-length
 same-length c = search needs
 
--- src/lib.rt:84:9
 returns : tie.Need-returns
 returns c = search (needs, parts)
 
--- src/lib.rt:84:9
 same-length-2 : tie.Need-same-length-2
 same-length-2 c = search needs
 
--- src/lib.rt:84:9
 returns-2 : tie.Need-returns-2
 returns-2 c = search (needs, parts)
 
--- src/lib.rt:84:9
 same-length-3 : tie.Need-same-length-3
 same-length-3 c = search needs
 
--- src/lib.rt:84:9
 returns-3 : tie.Need-returns-3
 returns-3 c = search (needs, parts)
 
--- src/lib.rt:94:9
 returns-4 : tie.Need-returns-4
 returns-4 c = search (needs, parts)
 
--- src/lib.rt:77:1
 returns-5 : tie.Need-returns-5
 returns-5 c = search (needs, parts)
 

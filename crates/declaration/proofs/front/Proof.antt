@@ -2,84 +2,61 @@ use Rattle.declaration.proofs.Bodies.{bodies}
 use borrow.Author.Needs.{needs}
 use Rattle.declaration.proofs.front.Statement.{statement}
 use Rattle.declaration.proofs.front.Tie as tie
-use Rattle.declaration.proofs.front.Reads as reads
-use Rattle.declaration.proofs.front.Lts as lts
-use Rattle.layout.proofs.header.Reads as header-reads
-use Rattle.layout.proofs.put2.Reads as put2-reads
 
--- src/lib.rt:266:28
 enum-told : tie.Need-enum-told
 enum-told c = search needs
 
--- src/lib.rt:266:13
 header-requires : tie.Need-header-requires
 header-requires c κs = search needs
 
--- src/lib.rt:267:13
 put2-requires : tie.Need-put2-requires
 put2-requires c κs = search needs
 
--- src/lib.rt:270:28
 enum-told-2 : tie.Need-enum-told-2
 enum-told-2 c = search needs
 
--- src/lib.rt:270:13
 header-requires-2 : tie.Need-header-requires-2
 header-requires-2 c κs = search needs
 
--- src/lib.rt:271:13
 put2-requires-2 : tie.Need-put2-requires-2
 put2-requires-2 c κs = search needs
 
--- src/lib.rt:274:28
 enum-told-3 : tie.Need-enum-told-3
 enum-told-3 c = search needs
 
--- src/lib.rt:274:13
 header-requires-3 : tie.Need-header-requires-3
 header-requires-3 c κs = search needs
 
--- src/lib.rt:275:13
 put2-requires-3 : tie.Need-put2-requires-3
 put2-requires-3 c κs = search needs
 
--- src/lib.rt:278:28
 enum-told-4 : tie.Need-enum-told-4
 enum-told-4 c = search needs
 
--- src/lib.rt:278:13
 header-requires-4 : tie.Need-header-requires-4
 header-requires-4 c κs = search needs
 
--- src/lib.rt:260:1
 same-length : tie.Need-same-length
 same-length c = search needs
 
--- src/lib.rt:260:1
 returns : tie.Need-returns
 returns c = search (needs, bodies)
 
--- src/lib.rt:260:1
 same-length-2 : tie.Need-same-length-2
 same-length-2 c = search needs
 
--- src/lib.rt:260:1
 returns-2 : tie.Need-returns-2
 returns-2 c = search (needs, bodies)
 
--- src/lib.rt:260:1
 same-length-3 : tie.Need-same-length-3
 same-length-3 c = search needs
 
--- src/lib.rt:260:1
 returns-3 : tie.Need-returns-3
 returns-3 c = search (needs, bodies)
 
--- src/lib.rt:260:1
 same-length-4 : tie.Need-same-length-4
 same-length-4 c = search needs
 
--- src/lib.rt:260:1
 returns-4 : tie.Need-returns-4
 returns-4 c = search (needs, bodies)
 

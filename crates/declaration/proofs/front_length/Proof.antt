@@ -2,38 +2,28 @@ use Rattle.declaration.proofs.Bodies.{bodies}
 use borrow.Author.Needs.{needs}
 use Rattle.declaration.proofs.front_length.Statement.{statement}
 use Rattle.declaration.proofs.front_length.Tie as tie
-use Rattle.declaration.proofs.front_length.Reads as reads
-use Rattle.declaration.proofs.front_length.Lts as lts
 
--- src/lib.rt:252:30
 enum-told : tie.Need-enum-told
 enum-told c = search needs
 
--- src/lib.rt:253:33
 enum-told-2 : tie.Need-enum-told-2
 enum-told-2 c = search needs
 
--- src/lib.rt:254:27
 enum-told-3 : tie.Need-enum-told-3
 enum-told-3 c = search needs
 
--- src/lib.rt:255:27
 enum-told-4 : tie.Need-enum-told-4
 enum-told-4 c = search needs
 
--- src/lib.rt:248:1
 returns : tie.Need-returns
 returns c = search (needs, bodies)
 
--- src/lib.rt:248:1
 returns-2 : tie.Need-returns-2
 returns-2 c = search (needs, bodies)
 
--- src/lib.rt:248:1
 returns-3 : tie.Need-returns-3
 returns-3 c = search (needs, bodies)
 
--- src/lib.rt:248:1
 returns-4 : tie.Need-returns-4
 returns-4 c = search (needs, bodies)
 

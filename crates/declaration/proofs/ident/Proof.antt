@@ -3,59 +3,45 @@ use borrow.Author.Needs.{needs}
 use Rattle.declaration.proofs.ident.Statement.{statement}
 use Rattle.declaration.proofs.ident.Tie as tie
 
--- src/lib.rt:57:9
 skip-requires : tie.Need-skip-requires
 skip-requires c κs = search needs
 
--- src/lib.rt:58:9
 word-end-requires : tie.Need-word-end-requires
 word-end-requires c κs = search needs
 
--- src/lib.rt:60:9
 returns : tie.Need-returns
 returns c = search (needs, parts)
 
--- src/lib.rt:65:13
 sub-m : tie.Need-sub-m
 sub-m c = search needs
 
--- src/lib.rt:66:28
 add-header : tie.Need-add-header
 add-header c = search needs
 
--- src/lib.rt:66:5
 header-requires : tie.Need-header-requires
 header-requires c κs = search needs
 
--- src/lib.rt:67:23
 add-copy : tie.Need-add-copy
 add-copy c = search needs
 
--- src/lib.rt:67:30
 sub-copy : tie.Need-sub-copy
 sub-copy c = search needs
 
--- src/lib.rt:67:30
 part-copy-start : tie.Need-part-copy-start
 part-copy-start c = search needs
 
--- src/lib.rt:67:30
 part-copy-end : tie.Need-part-copy-end
 part-copy-end c = search needs
 
--- src/lib.rt:67:5
 copy-requires : tie.Need-copy-requires
 copy-requires c κs = search needs
 
--- src/lib.rt:70:14
 add-t13 : tie.Need-add-t13
 add-t13 c = search needs
 
--- src/lib.rt:53:1
 same-length : tie.Need-same-length
 same-length c = search needs
 
--- src/lib.rt:53:1
 returns-2 : tie.Need-returns-2
 returns-2 c = search (needs, parts)
 

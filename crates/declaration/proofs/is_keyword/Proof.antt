@@ -2,71 +2,52 @@ use Rattle.declaration.proofs.Parts.{parts}
 use borrow.Author.Needs.{needs}
 use Rattle.declaration.proofs.is_keyword.Statement.{statement}
 use Rattle.declaration.proofs.is_keyword.Tie as tie
-use Rattle.declaration.proofs.is_keyword.Reads as reads
-use Rattle.declaration.proofs.is_keyword.Lts as lts
-use Rattle.text.proofs.equal.Reads as equal-reads
 
--- src/lib.rt:23:42
 enum-told : tie.Need-enum-told
 enum-told c = search needs
 
--- src/lib.rt:23:42
 slice-aggregate-equal : tie.Need-slice-aggregate-equal
 slice-aggregate-equal c = search needs
 
--- src/lib.rt:23:30
 equal-requires : tie.Need-equal-requires
 equal-requires c κs = search needs
 
--- src/lib.rt:24:45
 enum-told-2 : tie.Need-enum-told-2
 enum-told-2 c = search needs
 
--- src/lib.rt:24:45
 slice-aggregate-equal-2 : tie.Need-slice-aggregate-equal-2
 slice-aggregate-equal-2 c = search needs
 
--- src/lib.rt:24:33
 equal-requires-2 : tie.Need-equal-requires-2
 equal-requires-2 c κs = search needs
 
--- src/lib.rt:25:39
 enum-told-3 : tie.Need-enum-told-3
 enum-told-3 c = search needs
 
--- src/lib.rt:25:39
 slice-aggregate-equal-3 : tie.Need-slice-aggregate-equal-3
 slice-aggregate-equal-3 c = search needs
 
--- src/lib.rt:25:27
 equal-requires-3 : tie.Need-equal-requires-3
 equal-requires-3 c κs = search needs
 
--- src/lib.rt:26:39
 enum-told-4 : tie.Need-enum-told-4
 enum-told-4 c = search needs
 
--- src/lib.rt:26:39
 slice-aggregate-equal-4 : tie.Need-slice-aggregate-equal-4
 slice-aggregate-equal-4 c = search needs
 
--- src/lib.rt:26:27
 equal-requires-4 : tie.Need-equal-requires-4
 equal-requires-4 c κs = search needs
 
--- src/lib.rt:19:1
 returns : tie.Need-returns
 returns c = search (needs, parts)
 
--- src/lib.rt:19:1
 returns-2 : tie.Need-returns-2
 returns-2 c = search (needs, parts)
 
--- src/lib.rt:19:1
 returns-3 : tie.Need-returns-3
 returns-3 c = search (needs, parts)
 
--- src/lib.rt:19:1
 returns-4 : tie.Need-returns-4
 returns-4 c = search (needs, parts)
 

@@ -2,63 +2,46 @@ use Rattle.declaration.proofs.Bodies.{bodies}
 use borrow.Author.Needs.{needs}
 use Rattle.declaration.proofs.name.Statement.{statement}
 use Rattle.declaration.proofs.name.Tie as tie
-use Rattle.declaration.proofs.name.Reads as reads
-use Rattle.declaration.proofs.name.Lts as lts
-use Rattle.declaration.proofs.ident.Reads as ident-reads
 
--- src/lib.rt:227:43
 enum-told : tie.Need-enum-told
 enum-told c = search needs
 
--- src/lib.rt:227:30
 ident-requires : tie.Need-ident-requires
 ident-requires c κs = search needs
 
--- src/lib.rt:228:33
 enum-told-2 : tie.Need-enum-told-2
 enum-told-2 c = search needs
 
--- src/lib.rt:229:40
 enum-told-3 : tie.Need-enum-told-3
 enum-told-3 c = search needs
 
--- src/lib.rt:229:27
 ident-requires-2 : tie.Need-ident-requires-2
 ident-requires-2 c κs = search needs
 
--- src/lib.rt:230:40
 enum-told-4 : tie.Need-enum-told-4
 enum-told-4 c = search needs
 
--- src/lib.rt:230:27
 ident-requires-3 : tie.Need-ident-requires-3
 ident-requires-3 c κs = search needs
 
--- src/lib.rt:222:1
 same-length : tie.Need-same-length
 same-length c = search needs
 
--- src/lib.rt:222:1
 returns : tie.Need-returns
 returns c = search (needs, bodies)
 
--- src/lib.rt:222:1
 returns-2 : tie.Need-returns-2
 returns-2 c = search (needs, bodies)
 
--- src/lib.rt:222:1
 same-length-2 : tie.Need-same-length-2
 same-length-2 c = search needs
 
--- src/lib.rt:222:1
 returns-3 : tie.Need-returns-3
 returns-3 c = search (needs, bodies)
 
--- src/lib.rt:222:1
 same-length-3 : tie.Need-same-length-3
 same-length-3 c = search needs
 
--- src/lib.rt:222:1
 returns-4 : tie.Need-returns-4
 returns-4 c = search (needs, bodies)
 

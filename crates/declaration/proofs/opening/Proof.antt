@@ -2,97 +2,70 @@ use Rattle.declaration.proofs.Answering.{opens-function, opens-construc
 use borrow.Author.Needs.{needs}
 use Rattle.declaration.proofs.opening.Statement.{statement}
 use Rattle.declaration.proofs.opening.Tie as tie
-use Rattle.declaration.proofs.opening.Reads as reads
-use Rattle.declaration.proofs.opening.Lts as lts
-use Rattle.declaration.proofs.by_size.Reads as by-size-reads
-use Rattle.declaration.proofs.refused.Reads as refused-reads
-use Rattle.text.proofs.begins.Reads as begins-reads
 
--- src/lib.rt:509:21
 slice-aggregate-begins : tie.Need-slice-aggregate-begins
 slice-aggregate-begins c = search needs
 
--- src/lib.rt:509:8
 begins-requires : tie.Need-begins-requires
 begins-requires c κs = search needs
 
--- src/lib.rt:510:9
 by-size-requires : tie.Need-by-size-requires
 by-size-requires c κs = search needs
 
--- src/lib.rt:510:9
 same-length : tie.Need-same-length
 same-length c = search needs
 
--- src/lib.rt:510:9
 returns : tie.Need-returns
 returns c = opens-function _ _ _ _ (c .before .before .before .before .before .begins .ensures) _ (c .before .before .before .before .if1 .taken) (c .before .before .by-size .ensures .0) (c .before .before .by-size .ensures .1)
 
--- src/lib.rt:512:21
 slice-aggregate-begins-2 : tie.Need-slice-aggregate-begins-2
 slice-aggregate-begins-2 c = search needs
 
--- src/lib.rt:512:8
 begins-requires-2 : tie.Need-begins-requires-2
 begins-requires-2 c κs = search needs
 
--- src/lib.rt:513:9
 by-size-requires-2 : tie.Need-by-size-requires-2
 by-size-requires-2 c κs = search needs
 
--- src/lib.rt:513:9
 same-length-2 : tie.Need-same-length-2
 same-length-2 c = search needs
 
--- src/lib.rt:513:9
 returns-2 : tie.Need-returns-2
 returns-2 c = opens-constructor _ _ _ _ (c .before .before .before .before .before .before .before .before .begins .ensures) _ (c .before .before .before .before .before .before .before .if1 .left) (c .before .before .before .before .before .begins2 .ensures) _ (c .before .before .before .before .if2 .taken) (c .before .before .by-size2 .ensures .0) (c .before .before .by-size2 .ensures .1)
 
--- src/lib.rt:515:21
 slice-aggregate-begins-3 : tie.Need-slice-aggregate-begins-3
 slice-aggregate-begins-3 c = search needs
 
--- src/lib.rt:515:8
 begins-requires-3 : tie.Need-begins-requires-3
 begins-requires-3 c κs = search needs
 
--- src/lib.rt:516:9
 by-size-requires-3 : tie.Need-by-size-requires-3
 by-size-requires-3 c κs = search needs
 
--- src/lib.rt:516:9
 same-length-3 : tie.Need-same-length-3
 same-length-3 c = search needs
 
--- src/lib.rt:516:9
 returns-3 : tie.Need-returns-3
 returns-3 c = opens-event _ _ _ _ (c .before .before .before .before .before .before .before .before .before .before .before .begins .ensures) _ (c .before .before .before .before .before .before .before .before .before .before .if1 .left) (c .before .before .before .before .before .before .before .before .begins2 .ensures) _ (c .before .before .before .before .before .before .before .if2 .left) (c .before .before .before .before .before .begins3 .ensures) _ (c .before .before .before .before .if3 .taken) (c .before .before .by-size3 .ensures .0) (c .before .before .by-size3 .ensures .1)
 
--- src/lib.rt:518:21
 slice-aggregate-begins-4 : tie.Need-slice-aggregate-begins-4
 slice-aggregate-begins-4 c = search needs
 
--- src/lib.rt:518:8
 begins-requires-4 : tie.Need-begins-requires-4
 begins-requires-4 c κs = search needs
 
--- src/lib.rt:519:9
 by-size-requires-4 : tie.Need-by-size-requires-4
 by-size-requires-4 c κs = search needs
 
--- src/lib.rt:519:9
 same-length-4 : tie.Need-same-length-4
 same-length-4 c = search needs
 
--- src/lib.rt:519:9
 returns-4 : tie.Need-returns-4
 returns-4 c = opens-error _ _ _ _ (c .before .before .before .before .before .before .before .before .before .before .before .before .before .before .begins .ensures) _ (c .before .before .before .before .before .before .before .before .before .before .before .before .before .if1 .left) (c .before .before .before .before .before .before .before .before .before .before .before .begins2 .ensures) _ (c .before .before .before .before .before .before .before .before .before .before .if2 .left) (c .before .before .before .before .before .before .before .before .begins3 .ensures) _ (c .before .before .before .before .before .before .before .if3 .left) (c .before .before .before .before .before .begins4 .ensures) _ (c .before .before .before .before .if4 .taken) (c .before .before .by-size4 .ensures .0) (c .before .before .by-size4 .ensures .1)
 
--- src/lib.rt:521:5
 refused-requires : tie.Need-refused-requires
 refused-requires c κs = search needs
 
--- src/lib.rt:504:1
 returns-5 : tie.Need-returns-5
 returns-5 c = opens-nothing _ _ _ _ (c .before .before .before .before .before .before .before .before .before .before .before .begins .ensures) _ (c .before .before .before .before .before .before .before .before .before .before .if1 .left) (c .before .before .before .before .before .before .before .before .begins2 .ensures) _ (c .before .before .before .before .before .before .before .if2 .left) (c .before .before .before .before .before .begins3 .ensures) _ (c .before .before .before .before .if3 .left) (c .before .before .begins4 .ensures) (c .before .if4 .left) (c .refused .ensures)
 

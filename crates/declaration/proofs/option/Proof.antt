@@ -3,39 +3,30 @@ use borrow.Author.Needs.{needs}
 use Rattle.declaration.proofs.option.Statement.{statement}
 use Rattle.declaration.proofs.option.Tie as tie
 
--- src/lib.rt:197:9
 skip-requires : tie.Need-skip-requires
 skip-requires c κs = search needs
 
--- src/lib.rt:198:9
 word-end-requires : tie.Need-word-end-requires
 word-end-requires c κs = search needs
 
--- src/lib.rt:199:26
 sub-stated-by : tie.Need-sub-stated-by
 sub-stated-by c = search needs
 
--- src/lib.rt:199:26
 part-stated-by-start : tie.Need-part-stated-by-start
 part-stated-by-start c = search needs
 
--- src/lib.rt:199:26
 part-stated-by-end : tie.Need-part-stated-by-end
 part-stated-by-end c = search needs
 
--- src/lib.rt:199:9
 stated-by-requires : tie.Need-stated-by-requires
 stated-by-requires c κs = search needs
 
--- src/lib.rt:202:21
 absent-requires : tie.Need-absent-requires
 absent-requires c κs = search needs
 
--- src/lib.rt:201:9
 returns : tie.Need-returns
 returns c = search (needs, bodies)
 
--- src/lib.rt:193:1
 returns-2 : tie.Need-returns-2
 returns-2 c = search (needs, bodies)
 

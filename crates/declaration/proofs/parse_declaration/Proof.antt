@@ -2,41 +2,28 @@ use Rattle.declaration.proofs.Answering.{whole-small, general-whole, ge
 use borrow.Author.Needs.{needs}
 use Rattle.declaration.proofs.parse_declaration.Statement.{statement}
 use Rattle.declaration.proofs.parse_declaration.Tie as tie
-use Rattle.declaration.proofs.parse_declaration.Reads as reads
-use Rattle.declaration.proofs.parse_declaration.Lts as lts
-use Rattle.declaration.proofs.admit.Reads as admit-reads
-use Rattle.declaration.proofs.opening.Reads as opening-reads
-use Rattle.declaration.proofs.refused.Reads as refused-reads
 
--- src/lib.rt:497:9
 admit-requires : tie.Need-admit-requires
 admit-requires c κs = search needs
 
--- src/lib.rt:499:42
 enum-told : tie.Need-enum-told
 enum-told c = search needs
 
--- src/lib.rt:499:28
 opening-requires : tie.Need-opening-requires
 opening-requires c κs = whole-small _ _ (c .before .before .before .admit .ensures) (c .before .enum-told .given .1)
 
--- src/lib.rt:500:25
 enum-known-a : tie.Need-enum-known-a
 enum-known-a c = search needs
 
--- src/lib.rt:500:42
 refused-requires : tie.Need-refused-requires
 refused-requires c κs = search needs
 
--- src/lib.rt:493:1
 same-length : tie.Need-same-length
 same-length c = search needs
 
--- src/lib.rt:493:1
 returns : tie.Need-returns
 returns c = general-whole _ _ _ (c .before .before .before .before .before .before .admit .ensures) _ _ (c .before .before .before .before .enum-told .given .1) (c .before .before .opening .ensures .0) (c .before .before .opening .ensures .1)
 
--- src/lib.rt:493:1
 returns-2 : tie.Need-returns-2
 returns-2 c = general-not _ _ _ (c .before .before .before .before .admit .ensures) _ _ _ (c .before .before .a .given .1) (c .refused .ensures)
 

@@ -2,38 +2,28 @@ use Rattle.declaration.proofs.Parts.{parts}
 use borrow.Author.Needs.{needs}
 use Rattle.declaration.proofs.sort_of.Statement.{statement}
 use Rattle.declaration.proofs.sort_of.Tie as tie
-use Rattle.declaration.proofs.sort_of.Reads as reads
-use Rattle.declaration.proofs.sort_of.Lts as lts
 
--- src/lib.rt:143:30
 enum-told : tie.Need-enum-told
 enum-told c = search needs
 
--- src/lib.rt:144:33
 enum-told-2 : tie.Need-enum-told-2
 enum-told-2 c = search needs
 
--- src/lib.rt:145:27
 enum-told-3 : tie.Need-enum-told-3
 enum-told-3 c = search needs
 
--- src/lib.rt:146:27
 enum-told-4 : tie.Need-enum-told-4
 enum-told-4 c = search needs
 
--- src/lib.rt:139:1
 returns : tie.Need-returns
 returns c = search (needs, parts)
 
--- src/lib.rt:139:1
 returns-2 : tie.Need-returns-2
 returns-2 c = search (needs, parts)
 
--- src/lib.rt:139:1
 returns-3 : tie.Need-returns-3
 returns-3 c = search (needs, parts)
 
--- src/lib.rt:139:1
 returns-4 : tie.Need-returns-4
 returns-4 c = search (needs, parts)
 

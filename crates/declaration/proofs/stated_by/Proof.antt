@@ -2,99 +2,73 @@ use Rattle.declaration.proofs.Parts.{parts}
 use borrow.Author.Needs.{needs}
 use Rattle.declaration.proofs.stated_by.Statement.{statement}
 use Rattle.declaration.proofs.stated_by.Tie as tie
-use Rattle.declaration.proofs.stated_by.Reads as reads
-use Rattle.declaration.proofs.stated_by.Lts as lts
-use Rattle.text.proofs.equal.Reads as equal-reads
 
--- src/lib.rt:156:28
 enum-told : tie.Need-enum-told
 enum-told c = search needs
 
--- src/lib.rt:156:28
 slice-aggregate-equal : tie.Need-slice-aggregate-equal
 slice-aggregate-equal c = search needs
 
--- src/lib.rt:156:16
 equal-requires : tie.Need-equal-requires
 equal-requires c κs = search needs
 
--- src/lib.rt:157:17
 returns : tie.Need-returns
 returns c = search (needs, parts)
 
--- src/lib.rt:159:28
 slice-aggregate-equal-2 : tie.Need-slice-aggregate-equal-2
 slice-aggregate-equal-2 c = search needs
 
--- src/lib.rt:159:16
 equal-requires-2 : tie.Need-equal-requires-2
 equal-requires-2 c κs = search needs
 
--- src/lib.rt:160:17
 returns-2 : tie.Need-returns-2
 returns-2 c = search (needs, parts)
 
--- src/lib.rt:162:28
 slice-aggregate-equal-3 : tie.Need-slice-aggregate-equal-3
 slice-aggregate-equal-3 c = search needs
 
--- src/lib.rt:162:16
 equal-requires-3 : tie.Need-equal-requires-3
 equal-requires-3 c κs = search needs
 
--- src/lib.rt:163:17
 returns-3 : tie.Need-returns-3
 returns-3 c = search (needs, parts)
 
--- src/lib.rt:168:28
 enum-told-2 : tie.Need-enum-told-2
 enum-told-2 c = search needs
 
--- src/lib.rt:168:28
 slice-aggregate-equal-4 : tie.Need-slice-aggregate-equal-4
 slice-aggregate-equal-4 c = search needs
 
--- src/lib.rt:168:16
 equal-requires-4 : tie.Need-equal-requires-4
 equal-requires-4 c κs = search needs
 
--- src/lib.rt:169:17
 returns-4 : tie.Need-returns-4
 returns-4 c = search (needs, parts)
 
--- src/lib.rt:174:28
 enum-told-3 : tie.Need-enum-told-3
 enum-told-3 c = search needs
 
--- src/lib.rt:174:28
 slice-aggregate-equal-5 : tie.Need-slice-aggregate-equal-5
 slice-aggregate-equal-5 c = search needs
 
--- src/lib.rt:174:16
 equal-requires-5 : tie.Need-equal-requires-5
 equal-requires-5 c κs = search needs
 
--- src/lib.rt:175:17
 returns-5 : tie.Need-returns-5
 returns-5 c = search (needs, parts)
 
--- src/lib.rt:179:27
 enum-told-4 : tie.Need-enum-told-4
 enum-told-4 c = search needs
 
--- src/lib.rt:151:1
 returns-6 : tie.Need-returns-6
 returns-6 c = search (needs, parts)
 
--- src/lib.rt:151:1
 returns-7 : tie.Need-returns-7
 returns-7 c = search (needs, parts)
 
--- src/lib.rt:151:1
 returns-8 : tie.Need-returns-8
 returns-8 c = search (needs, parts)
 
--- src/lib.rt:151:1
 returns-9 : tie.Need-returns-9
 returns-9 c = search (needs, parts)
 

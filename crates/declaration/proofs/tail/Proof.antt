@@ -2,98 +2,70 @@ use Rattle.declaration.proofs.Bodies.{bodies}
 use borrow.Author.Needs.{needs}
 use Rattle.declaration.proofs.tail.Statement.{statement}
 use Rattle.declaration.proofs.tail.Tie as tie
-use Rattle.declaration.proofs.tail.Reads as reads
-use Rattle.declaration.proofs.tail.Lts as lts
-use Rattle.declaration.proofs.end.Reads as end-reads
-use Rattle.declaration.proofs.front.Reads as front-reads
-use Rattle.declaration.proofs.option.Reads as option-reads
-use Rattle.declaration.proofs.outputs.Reads as outputs-reads
 
--- src/lib.rt:290:9
 option-requires : tie.Need-option-requires
 option-requires c κs = search needs
 
--- src/lib.rt:291:9
 outputs-requires : tie.Need-outputs-requires
 outputs-requires c κs = search needs
 
--- src/lib.rt:293:21
 enum-known-r : tie.Need-enum-known-r
 enum-known-r c = search needs
 
--- src/lib.rt:294:17
 end-requires : tie.Need-end-requires
 end-requires c κs = let w = rw (c .before .r .given .1) at (c .before .before .before .before .before .outputs .ensures .within) in search needs
 
--- src/lib.rt:296:35
 enum-known-e : tie.Need-enum-known-e
 enum-known-e c = search needs
 
--- src/lib.rt:297:35
 add-front : tie.Need-add-front
 add-front c = let w = rw (c .before .before .before .before .before .before .r .given .1) at (c .before .before .before .before .before .before .before .before .before .before .outputs .ensures .within) in search needs
 
--- src/lib.rt:297:21
 front-requires : tie.Need-front-requires
 front-requires c κs = search needs
 
--- src/lib.rt:300:30
 add-t25 : tie.Need-add-t25
 add-t25 c = let w = rw (c .before .before .before .before .before .before .before .before .before .r .given .1) at (c .before .before .before .before .before .before .before .before .before .before .before .before .before .outputs .ensures .within) in search needs
 
--- src/lib.rt:303:38
 enum-known-e-2 : tie.Need-enum-known-e-2
 enum-known-e-2 c = search needs
 
--- src/lib.rt:304:34
 enum-known-e-3 : tie.Need-enum-known-e-3
 enum-known-e-3 c = search needs
 
--- src/lib.rt:307:30
 enum-known-r-2 : tie.Need-enum-known-r-2
 enum-known-r-2 c = search needs
 
--- src/lib.rt:308:26
 enum-known-r-3 : tie.Need-enum-known-r-3
 enum-known-r-3 c = search needs
 
--- src/lib.rt:286:1
 same-length : tie.Need-same-length
 same-length c = search needs
 
--- src/lib.rt:286:1
 returns : tie.Need-returns
 returns c = search (needs, bodies)
 
--- src/lib.rt:286:1
 same-length-2 : tie.Need-same-length-2
 same-length-2 c = search needs
 
--- src/lib.rt:286:1
 returns-2 : tie.Need-returns-2
 returns-2 c = search (needs, bodies)
 
--- src/lib.rt:286:1
 same-length-3 : tie.Need-same-length-3
 same-length-3 c = search needs
 
--- src/lib.rt:286:1
 returns-3 : tie.Need-returns-3
 returns-3 c = search (needs, bodies)
 
--- src/lib.rt:286:1
 same-length-4 : tie.Need-same-length-4
 same-length-4 c = search needs
 
--- src/lib.rt:286:1
 returns-4 : tie.Need-returns-4
 returns-4 c = search (needs, bodies)
 
--- src/lib.rt:286:1
 same-length-5 : tie.Need-same-length-5
 same-length-5 c = search needs
 
--- src/lib.rt:286:1
 returns-5 : tie.Need-returns-5
 returns-5 c = search (needs, bodies)
 

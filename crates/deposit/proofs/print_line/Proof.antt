@@ -3,40 +3,28 @@ use mathlib.Core.Path.{sym}
 use borrow.Author.Needs.{needs}
 use Rattle.deposit.proofs.print_line.Statement.{statement}
 use Rattle.deposit.proofs.print_line.Tie as tie
-use Rattle.deposit.proofs.print_line.Reads as reads
-use Rattle.deposit.proofs.print_line.Lts as lts
-use Rattle.deposit.proofs.print.Reads as print-reads
-use Rattle.report.proofs.line.Reads as line-reads
 
--- src/main.rt:32:9
 line-requires : tie.Need-line-requires
 line-requires c κs = search needs
 
--- src/main.rt:33:11
 slice-reshare-prefix-print : tie.Need-slice-reshare-prefix-print
 slice-reshare-prefix-print c = search needs
 
--- src/main.rt:33:11
 slice-aggregate-print : tie.Need-slice-aggregate-print
 slice-aggregate-print c = sym (length-take-le _ _ (c .before .before .before .line .ensures .1 .1))
 
--- src/main.rt:33:5
 print-requires : tie.Need-print-requires
 print-requires c κs = search needs
 
--- src/main.rt:34:11
 slice-aggregate-print-2 : tie.Need-slice-aggregate-print-2
 slice-aggregate-print-2 c = search needs
 
--- src/main.rt:34:5
 print-requires-2 : tie.Need-print-requires-2
 print-requires-2 c κs = search needs
 
--- src/main.rt:29:1
 same-length : tie.Need-same-length
 same-length c = search needs
 
--- src/main.rt:29:1
 returns : tie.Need-returns
 returns c = search needs
 

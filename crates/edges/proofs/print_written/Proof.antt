@@ -3,46 +3,31 @@ use lib.Seq.{length-take-le}
 use borrow.Author.Needs.{needs}
 use Rattle.edges.proofs.print_written.Statement.{statement}
 use Rattle.edges.proofs.print_written.Tie as tie
-use Rattle.edges.proofs.print_written.Reads as reads
-use Rattle.edges.proofs.print_written.Lts as lts
-use Rattle.edges.proofs.print.Reads as print-reads
-use Rattle.edges.proofs.print_characters.Reads as print-characters-reads
-use Rattle.edges.proofs.print_damage.Reads as print-damage-reads
-use Rattle.edges.proofs.print_number.Reads as print-number-reads
 
--- src/main.rt:384:11
 slice-aggregate-print : tie.Need-slice-aggregate-print
 slice-aggregate-print c = search needs
 
--- src/main.rt:384:5
 print-requires : tie.Need-print-requires
 print-requires c κs = search needs
 
--- src/main.rt:385:5
 print-number-requires : tie.Need-print-number-requires
 print-number-requires c κs = search needs
 
--- src/main.rt:387:15
 slice-aggregate-print-2 : tie.Need-slice-aggregate-print-2
 slice-aggregate-print-2 c = search needs
 
--- src/main.rt:387:9
 print-requires-2 : tie.Need-print-requires-2
 print-requires-2 c κs = search needs
 
--- src/main.rt:388:26
 slice-aggregate-print-characters : tie.Need-slice-aggregate-print-characters
 slice-aggregate-print-characters c = sym (length-take-le _ _ (search needs))
 
--- src/main.rt:388:9
 print-characters-requires : tie.Need-print-characters-requires
 print-characters-requires c κs = search needs
 
--- src/main.rt:390:5
 print-damage-requires : tie.Need-print-damage-requires
 print-damage-requires c κs = search needs
 
--- src/main.rt:383:1
 returns : tie.Need-returns
 returns c = search needs
 

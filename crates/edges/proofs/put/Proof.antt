@@ -5,8 +5,6 @@ use lib.ListN.{length, length-set}
 use borrow.Author.Needs.{needs}
 use Rattle.edges.proofs.put.Statement.{statement}
 use Rattle.edges.proofs.put.Tie as tie
-use Rattle.edges.proofs.put.Reads as reads
-use Rattle.edges.proofs.put.Lts as lts
 
 abbrev Inv-loop : tie.InvT-loop
 Inv-loop out₀ at bytes p₀ i₀ out p i = (length out ≡ length out₀) × (p ≤ length out)
@@ -14,47 +12,36 @@ Inv-loop out₀ at bytes p₀ i₀ out p i = (length out ≡ length out₀) × (
 abbrev μ-loop : tie.MeasureT-loop
 μ-loop out₀ at bytes p₀ i₀ out p i = length bytes - i
 
--- src/main.rt:321:5
 loop-holds : tie.Need-loop-holds Inv-loop μ-loop
 loop-holds c = search needs
 
--- src/main.rt:323:13
 same-length : tie.Need-same-length Inv-loop μ-loop
 same-length c = search needs
 
--- src/main.rt:323:13
 returns : tie.Need-returns Inv-loop μ-loop
 returns c = search needs
 
--- src/main.rt:325:18
 shared-slice-read-out : tie.Need-shared-slice-read-out Inv-loop μ-loop
 shared-slice-read-out c = search needs
 
--- src/main.rt:325:9
 slice-write-out : tie.Need-slice-write-out Inv-loop μ-loop
 slice-write-out c = search needs
 
--- src/main.rt:326:9
 add-p : tie.Need-add-p Inv-loop μ-loop
 add-p c = search needs
 
--- src/main.rt:327:9
 add-i : tie.Need-add-i Inv-loop μ-loop
 add-i c = search needs
 
--- src/main.rt:321:5
 loop-less : tie.Need-loop-less Inv-loop μ-loop
 loop-less c = search needs
 
--- src/main.rt:321:5
 loop-again : tie.Need-loop-again Inv-loop μ-loop
 loop-again c = (simp length-set (c .before .before .before .loop .inv .0), simp length-set (omega (arith, (c .before .before .before .loop .inv .1))))
 
--- src/main.rt:315:1
 same-length-2 : tie.Need-same-length-2 Inv-loop μ-loop
 same-length-2 c = search needs
 
--- src/main.rt:315:1
 returns-2 : tie.Need-returns-2 Inv-loop μ-loop
 returns-2 c = search needs
 

@@ -2,74 +2,55 @@ use Rattle.fields.proofs.LeafFields.{leafs}
 use borrow.Author.Needs.{needs}
 use Rattle.fields.proofs.is_located.Statement.{statement}
 use Rattle.fields.proofs.is_located.Tie as tie
-use Rattle.fields.proofs.is_located.Reads as reads
-use Rattle.fields.proofs.is_located.Lts as lts
 
--- src/lib.rt:239:29
 enum-told : tie.Need-enum-told
 enum-told c = search needs
 
--- src/lib.rt:240:30
 enum-told-2 : tie.Need-enum-told-2
 enum-told-2 c = search needs
 
--- src/lib.rt:241:30
 enum-told-3 : tie.Need-enum-told-3
 enum-told-3 c = search needs
 
--- src/lib.rt:242:27
 enum-told-4 : tie.Need-enum-told-4
 enum-told-4 c = search needs
 
--- src/lib.rt:243:36
 enum-told-5 : tie.Need-enum-told-5
 enum-told-5 c = search needs
 
--- src/lib.rt:244:31
 enum-told-6 : tie.Need-enum-told-6
 enum-told-6 c = search needs
 
--- src/lib.rt:245:28
 enum-told-7 : tie.Need-enum-told-7
 enum-told-7 c = search needs
 
--- src/lib.rt:246:29
 enum-told-8 : tie.Need-enum-told-8
 enum-told-8 c = search needs
 
--- src/lib.rt:238:9
 returns : tie.Need-returns
 returns c = search (needs, leafs)
 
--- src/lib.rt:238:9
 returns-2 : tie.Need-returns-2
 returns-2 c = search (needs, leafs)
 
--- src/lib.rt:238:9
 returns-3 : tie.Need-returns-3
 returns-3 c = search (needs, leafs)
 
--- src/lib.rt:238:9
 returns-4 : tie.Need-returns-4
 returns-4 c = search (needs, leafs)
 
--- src/lib.rt:238:9
 returns-5 : tie.Need-returns-5
 returns-5 c = search (needs, leafs)
 
--- src/lib.rt:238:9
 returns-6 : tie.Need-returns-6
 returns-6 c = search (needs, leafs)
 
--- src/lib.rt:238:9
 returns-7 : tie.Need-returns-7
 returns-7 c = search (needs, leafs)
 
--- src/lib.rt:238:9
 returns-8 : tie.Need-returns-8
 returns-8 c = search (needs, leafs)
 
--- src/lib.rt:234:1
 returns-9 : tie.Need-returns-9
 returns-9 c = search (needs, leafs)
 

@@ -5,34 +5,25 @@ use Rattle.fields.proofs.Naming.{naming}
 use borrow.Author.Needs.{needs}
 use Rattle.fields.proofs.longer.Statement.{statement}
 use Rattle.fields.proofs.longer.Tie as tie
-use Rattle.fields.proofs.longer.Reads as reads
-use Rattle.fields.proofs.longer.Lts as lts
 
--- src/lib.rt:312:21
 enum-known-r : tie.Need-enum-known-r
 enum-known-r c = search needs
 
--- src/lib.rt:312:59
 add-t9 : tie.Need-add-t9
 add-t9 c = omega (arith, rw (c .before .r .given .1) at (c .before .before .before .pre))
 
--- src/lib.rt:313:30
 enum-known-r-2 : tie.Need-enum-known-r-2
 enum-known-r-2 c = search needs
 
--- src/lib.rt:314:26
 enum-known-r-3 : tie.Need-enum-known-r-3
 enum-known-r-3 c = search needs
 
--- src/lib.rt:307:1
 returns : tie.Need-returns
 returns c = search (needs, naming)
 
--- src/lib.rt:307:1
 returns-2 : tie.Need-returns-2
 returns-2 c = sym (ap (longerBy _) (c .before .r2 .given .1))
 
--- src/lib.rt:307:1
 returns-3 : tie.Need-returns-3
 returns-3 c = sym (ap (longerBy _) (c .before .r3 .given .1))
 

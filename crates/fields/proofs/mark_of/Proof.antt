@@ -2,52 +2,37 @@ use Rattle.fields.proofs.Spots.{spots}
 use borrow.Author.Needs.{needs}
 use Rattle.fields.proofs.mark_of.Statement.{statement}
 use Rattle.fields.proofs.mark_of.Tie as tie
-use Rattle.fields.proofs.mark_of.Reads as reads
-use Rattle.fields.proofs.mark_of.Lts as lts
-use Rattle.fields.proofs.location.Reads as location-reads
-use Rattle.text.proofs.equal.Reads as equal-reads
 
--- src/lib.rt:50:24
 enum-told : tie.Need-enum-told
 enum-told c = search needs
 
--- src/lib.rt:52:16
 enum-told-2 : tie.Need-enum-told-2
 enum-told-2 c = search needs
 
--- src/lib.rt:53:17
 location-requires : tie.Need-location-requires
 location-requires c κs = search needs
 
--- src/lib.rt:53:17
 returns : tie.Need-returns
 returns c = search (needs, spots)
 
--- src/lib.rt:58:28
 enum-told-3 : tie.Need-enum-told-3
 enum-told-3 c = search needs
 
--- src/lib.rt:58:28
 slice-aggregate-equal : tie.Need-slice-aggregate-equal
 slice-aggregate-equal c = search needs
 
--- src/lib.rt:58:16
 equal-requires : tie.Need-equal-requires
 equal-requires c κs = search needs
 
--- src/lib.rt:59:17
 returns-2 : tie.Need-returns-2
 returns-2 c = search (needs, spots)
 
--- src/lib.rt:46:1
 returns-3 : tie.Need-returns-3
 returns-3 c = search (needs, spots)
 
--- src/lib.rt:46:1
 returns-4 : tie.Need-returns-4
 returns-4 c = search (needs, spots)
 
--- src/lib.rt:46:1
 returns-5 : tie.Need-returns-5
 returns-5 c = search (needs, spots)
 

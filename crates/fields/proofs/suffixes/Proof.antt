@@ -4,11 +4,6 @@ use lib.ListN.{length}
 use Rattle.fields.proofs.Growing.{growing, Growing, room-sized, growing-sized}
 use Rattle.fields.proofs.suffixes.Statement.{statement}
 use Rattle.fields.proofs.suffixes.Tie as tie
-use Rattle.fields.proofs.suffixes.Reads as reads
-use Rattle.fields.proofs.suffixes.Lts as lts
-use Rattle.fields.proofs.array_suffix.Reads as array-suffix-reads
-use Rattle.layout.proofs.header.Reads as header-reads
-use Rattle.layout.proofs.put8.Reads as put8-reads
 
 abbrev Inv-loop : tie.InvT-loop
 Inv-loop s at out₀ o p₀ len₀ out p len = Growing s at o out₀ p len out
@@ -16,83 +11,63 @@ Inv-loop s at out₀ o p₀ len₀ out p len = Growing s at o out₀ p len out
 abbrev μ-loop : tie.MeasureT-loop
 μ-loop s at out₀ o p₀ len₀ out p len = length s - p
 
--- src/lib.rt:209:5
 loop-holds : tie.Need-loop-holds Inv-loop μ-loop
 loop-holds c = search (needs, growing)
 
--- src/lib.rt:210:13
 array-suffix-requires : tie.Need-array-suffix-requires Inv-loop μ-loop
 array-suffix-requires c κs = search (needs, growing)
 
--- src/lib.rt:212:30
 enum-known-b : tie.Need-enum-known-b Inv-loop μ-loop
 enum-known-b c = search (needs, growing)
 
--- src/lib.rt:213:37
 add-header : tie.Need-add-header Inv-loop μ-loop
 add-header c = search (needs, growing)
 
--- src/lib.rt:213:17
 header-requires : tie.Need-header-requires Inv-loop μ-loop
 header-requires c κs = let h = room-sized _ _ _ _ _ _ _ (c .before .before .before .before .before .loop .inv) _ (c .before .before .before .before .array-suffix .ensures) _ _ (c .before .before .b .given .1) in search needs
 
--- src/lib.rt:214:35
 add-put8 : tie.Need-add-put8 Inv-loop μ-loop
 add-put8 c = search (needs, growing)
 
--- src/lib.rt:214:35
 add-put8-2 : tie.Need-add-put8-2 Inv-loop μ-loop
 add-put8-2 c = search (needs, growing)
 
--- src/lib.rt:214:17
 put8-requires : tie.Need-put8-requires Inv-loop μ-loop
 put8-requires c κs = let h = room-sized _ _ _ _ _ _ _ (c .before .before .before .before .before .before .before .before .before .loop .inv) _ (c .before .before .before .before .before .before .before .before .array-suffix .ensures) _ _ (c .before .before .before .before .before .before .b .given .1) in search needs
 
--- src/lib.rt:216:17
 add-len : tie.Need-add-len Inv-loop μ-loop
 add-len c = search (needs, growing)
 
--- src/lib.rt:209:5
 loop-less : tie.Need-loop-less Inv-loop μ-loop
 loop-less c = search (needs, growing)
 
--- src/lib.rt:209:5
 loop-again : tie.Need-loop-again Inv-loop μ-loop
 loop-again c = growing-sized _ _ _ _ _ _ _ (c .before .before .before .before .before .before .before .before .before .before .before .before .loop .inv) _ (c .before .before .before .before .before .before .before .before .before .before .before .array-suffix .ensures) _ _ _ _ (c .before .before .before .before .before .before .before .before .before .b .given .1) (c .before .before .before .before .before .before .header .ensures) (c .before .before .put8 .ensures)
 
--- src/lib.rt:218:32
 enum-known-b-2 : tie.Need-enum-known-b-2 Inv-loop μ-loop
 enum-known-b-2 c = search (needs, growing)
 
--- src/lib.rt:219:37
 add-header-2 : tie.Need-add-header-2 Inv-loop μ-loop
 add-header-2 c = search (needs, growing)
 
--- src/lib.rt:219:17
 header-requires-2 : tie.Need-header-requires-2 Inv-loop μ-loop
 header-requires-2 c κs = search (needs, growing)
 
--- src/lib.rt:221:17
 add-len-2 : tie.Need-add-len-2 Inv-loop μ-loop
 add-len-2 c = search (needs, growing)
 
--- src/lib.rt:209:5
 loop-less-2 : tie.Need-loop-less-2 Inv-loop μ-loop
 loop-less-2 c = search (needs, growing)
 
--- src/lib.rt:209:5
 loop-again-2 : tie.Need-loop-again-2 Inv-loop μ-loop
 loop-again-2 c = search (needs, growing)
 
--- src/lib.rt:224:17
 enum-told : tie.Need-enum-told Inv-loop μ-loop
 enum-told c = search (needs, growing)
 
--- src/lib.rt:224:17
 same-length : tie.Need-same-length Inv-loop μ-loop
 same-length c = search (needs, growing)
 
--- src/lib.rt:224:17
 returns : tie.Need-returns Inv-loop μ-loop
 returns c = search (needs, growing)
 

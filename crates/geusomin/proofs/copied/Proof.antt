@@ -4,23 +4,16 @@ use mathlib.Core.Path.{refl}
 use borrow.Author.Needs.{needs}
 use Rattle.geusomin.proofs.copied.Statement.{statement}
 use Rattle.geusomin.proofs.copied.Tie as tie
-use Rattle.geusomin.proofs.copied.Reads as reads
-use Rattle.geusomin.proofs.copied.Lts as lts
-use Rattle.layout.proofs.copy.Reads as copy-reads
 
--- src/lib.rt:125:9
 returns : tie.Need-returns
 returns c = ends-full _ _ _ _ refl refl (omega arith)
 
--- src/lib.rt:130:5
 copy-requires : tie.Need-copy-requires
 copy-requires c κs = search needs
 
--- src/lib.rt:119:1
 same-length : tie.Need-same-length
 same-length c = search needs
 
--- src/lib.rt:119:1
 returns-2 : tie.Need-returns-2
 returns-2 c = ends-written _ _ _ _ _ refl refl (omega arith) (c .before .before .copy .ensures)
 

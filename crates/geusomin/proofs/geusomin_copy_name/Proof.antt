@@ -2,33 +2,22 @@ use Rattle.geusomin.proofs.Telling.{name-copied, name-refused}
 use borrow.Author.Needs.{needs}
 use Rattle.geusomin.proofs.geusomin_copy_name.Statement.{statement}
 use Rattle.geusomin.proofs.geusomin_copy_name.Tie as tie
-use Rattle.geusomin.proofs.geusomin_copy_name.Reads as reads
-use Rattle.geusomin.proofs.geusomin_copy_name.Lts as lts
-use Rattle.abi.proofs.name.Reads as name-reads
-use Rattle.geusomin.proofs.copied.Reads as copied-reads
-use Rattle.geusomin.proofs.tell.Reads as tell-reads
 
--- src/lib.rt:141:9
 name-requires : tie.Need-name-requires
 name-requires c κs = search needs
 
--- src/lib.rt:143:21
 copied-requires : tie.Need-copied-requires
 copied-requires c κs = search needs
 
--- src/lib.rt:143:9
 tell-requires : tie.Need-tell-requires
 tell-requires c κs = search needs
 
--- src/lib.rt:143:9
 same-length : tie.Need-same-length
 same-length c = search needs
 
--- src/lib.rt:143:9
 returns : tie.Need-returns
 returns c = name-copied _ _ _ _ _ _ _ _ (c .before .before .before .before .before .before .before .name .ensures .1) (c .before .before .before .before .before .before .if1 .taken) (c .before .before .before .before .before .before .before .name .ensures .0) (c .before .before .before .before .copied .ensures .0) (c .before .before .before .before .copied .ensures .1) (c .tell .ensures .0) (c .tell .ensures .1)
 
--- src/lib.rt:134:1
 returns-2 : tie.Need-returns-2
 returns-2 c = name-refused _ _ _ (c .before .name .ensures .1) (c .if1 .left)
 

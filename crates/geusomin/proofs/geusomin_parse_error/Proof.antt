@@ -2,24 +2,16 @@ use Rattle.geusomin.proofs.Telling.{told}
 use borrow.Author.Needs.{needs}
 use Rattle.geusomin.proofs.geusomin_parse_error.Statement.{statement}
 use Rattle.geusomin.proofs.geusomin_parse_error.Tie as tie
-use Rattle.geusomin.proofs.geusomin_parse_error.Reads as reads
-use Rattle.geusomin.proofs.geusomin_parse_error.Lts as lts
-use Rattle.declaration.proofs.parse_error.Reads as parse-error-reads
-use Rattle.geusomin.proofs.tell.Reads as tell-reads
 
--- src/lib.rt:79:10
 parse-error-requires : tie.Need-parse-error-requires
 parse-error-requires c κs = search needs
 
--- src/lib.rt:79:5
 tell-requires : tie.Need-tell-requires
 tell-requires c κs = search needs
 
--- src/lib.rt:73:1
 same-length : tie.Need-same-length
 same-length c = search needs
 
--- src/lib.rt:73:1
 returns : tie.Need-returns
 returns c = told _ _ _ _ _ _ (c .before .before .before .before .parse-error .ensures .0) (c .before .before .before .before .parse-error .ensures .1) (c .tell .ensures .0) (c .tell .ensures .1)
 

@@ -2,24 +2,16 @@ use Rattle.geusomin.proofs.Telling.{told}
 use borrow.Author.Needs.{needs}
 use Rattle.geusomin.proofs.geusomin_signature.Statement.{statement}
 use Rattle.geusomin.proofs.geusomin_signature.Tie as tie
-use Rattle.geusomin.proofs.geusomin_signature.Reads as reads
-use Rattle.geusomin.proofs.geusomin_signature.Lts as lts
-use Rattle.abi.proofs.signature.Reads as signature-reads
-use Rattle.geusomin.proofs.tell.Reads as tell-reads
 
--- src/lib.rt:106:10
 signature-requires : tie.Need-signature-requires
 signature-requires c κs = search needs
 
--- src/lib.rt:106:5
 tell-requires : tie.Need-tell-requires
 tell-requires c κs = search needs
 
--- src/lib.rt:100:1
 same-length : tie.Need-same-length
 same-length c = search needs
 
--- src/lib.rt:100:1
 returns : tie.Need-returns
 returns c = told _ _ _ _ _ _ (c .before .before .before .before .signature .ensures .0) (c .before .before .before .before .signature .ensures .1) (c .tell .ensures .0) (c .tell .ensures .1)
 

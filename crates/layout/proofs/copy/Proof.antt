@@ -5,10 +5,6 @@ use Rattle.layout.proofs.Puts.{Copied}
 use Rattle.layout.proofs.Copies.{copies}
 use Rattle.layout.proofs.copy.Statement.{statement}
 use Rattle.layout.proofs.copy.Tie as tie
-use Rattle.layout.proofs.copy.Reads as reads
-use Rattle.layout.proofs.copy.Lts as lts
-use Rattle.layout.proofs.copy8.Reads as copy8-reads
-use Rattle.layout.proofs.copy_short.Reads as copy-short-reads
 
 abbrev Inv-loop : tie.InvT-loop
 Inv-loop out₀ at src n i₀ out i = Copied out₀ at src out i
@@ -16,51 +12,39 @@ Inv-loop out₀ at src n i₀ out i = Copied out₀ at src out i
 abbrev μ-loop : tie.MeasureT-loop
 μ-loop out₀ at src n i₀ out i = length src - i
 
--- src/lib.rt:122:9
 copy-short-requires : tie.Need-copy-short-requires Inv-loop μ-loop
 copy-short-requires c κs = search (needs, copies)
 
--- src/lib.rt:123:9
 same-length : tie.Need-same-length Inv-loop μ-loop
 same-length c = search (needs, copies)
 
--- src/lib.rt:123:9
 returns : tie.Need-returns Inv-loop μ-loop
 returns c = search (needs, copies)
 
--- src/lib.rt:126:5
 loop-holds : tie.Need-loop-holds Inv-loop μ-loop
 loop-holds c = search (needs, copies)
 
--- src/lib.rt:126:11
 add-loop : tie.Need-add-loop Inv-loop μ-loop
 add-loop c = search (needs, copies)
 
--- src/lib.rt:127:9
 copy8-requires : tie.Need-copy8-requires Inv-loop μ-loop
 copy8-requires c κs = search (needs, copies)
 
--- src/lib.rt:128:9
 add-i : tie.Need-add-i Inv-loop μ-loop
 add-i c = search (needs, copies)
 
--- src/lib.rt:126:5
 loop-less : tie.Need-loop-less Inv-loop μ-loop
 loop-less c = search (needs, copies)
 
--- src/lib.rt:126:5
 loop-again : tie.Need-loop-again Inv-loop μ-loop
 loop-again c = search (needs, copies)
 
--- src/lib.rt:130:5
 copy8-requires-2 : tie.Need-copy8-requires-2 Inv-loop μ-loop
 copy8-requires-2 c κs = search (needs, copies)
 
--- src/lib.rt:116:1
 same-length-2 : tie.Need-same-length-2 Inv-loop μ-loop
 same-length-2 c = search (needs, copies)
 
--- src/lib.rt:116:1
 returns-2 : tie.Need-returns-2 Inv-loop μ-loop
 returns-2 c = search (needs, copies)
 

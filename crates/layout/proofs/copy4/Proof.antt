@@ -3,28 +3,19 @@ use Rattle.layout.proofs.Copies.{part-put}
 use borrow.Author.Needs.{needs}
 use Rattle.layout.proofs.copy4.Statement.{statement}
 use Rattle.layout.proofs.copy4.Tie as tie
-use Rattle.layout.proofs.copy4.Reads as reads
-use Rattle.layout.proofs.copy4.Lts as lts
-use Rattle.layout.proofs.get4.Reads as get4-reads
-use Rattle.layout.proofs.put4.Reads as put4-reads
 
--- src/lib.rt:86:15
 add-put4 : tie.Need-add-put4
 add-put4 c = search needs
 
--- src/lib.rt:86:23
 get4-requires : tie.Need-get4-requires
 get4-requires c κs = search needs
 
--- src/lib.rt:86:5
 put4-requires : tie.Need-put4-requires
 put4-requires c κs = search needs
 
--- src/lib.rt:82:1
 same-length : tie.Need-same-length
 same-length c = search needs
 
--- src/lib.rt:82:1
 returns : tie.Need-returns
 returns c = part-put 4 _ _ (c .before .before .before .before .before .before .before .args .src .now) _ _ _ (λ k. omega (arith, c .before .before .before .before .before .shared-slice-known .given k)) (c .before .before .before .before .before .before .before .pre .0) (c .before .before .before .get4 .ensures .0) (c .before .before .put4 .ensures)
 

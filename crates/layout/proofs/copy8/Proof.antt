@@ -3,28 +3,19 @@ use Rattle.layout.proofs.Copies.{part-put}
 use borrow.Author.Needs.{needs}
 use Rattle.layout.proofs.copy8.Statement.{statement}
 use Rattle.layout.proofs.copy8.Tie as tie
-use Rattle.layout.proofs.copy8.Reads as reads
-use Rattle.layout.proofs.copy8.Lts as lts
-use Rattle.layout.proofs.get8.Reads as get8-reads
-use Rattle.layout.proofs.put8.Reads as put8-reads
 
--- src/lib.rt:94:15
 add-put8 : tie.Need-add-put8
 add-put8 c = search needs
 
--- src/lib.rt:94:23
 get8-requires : tie.Need-get8-requires
 get8-requires c κs = search needs
 
--- src/lib.rt:94:5
 put8-requires : tie.Need-put8-requires
 put8-requires c κs = search needs
 
--- src/lib.rt:90:1
 same-length : tie.Need-same-length
 same-length c = search needs
 
--- src/lib.rt:90:1
 returns : tie.Need-returns
 returns c = part-put 8 _ _ (c .before .before .before .before .before .before .before .args .src .now) _ _ _ (λ k. omega (arith, c .before .before .before .before .before .shared-slice-known .given k)) (c .before .before .before .before .before .before .before .pre .0) (c .before .before .before .get8 .ensures) (c .before .before .put8 .ensures)
 

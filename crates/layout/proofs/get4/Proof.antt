@@ -2,79 +2,58 @@ use Rattle.layout.proofs.Puts.{puts}
 use borrow.Author.Needs.{needs}
 use Rattle.layout.proofs.get4.Statement.{statement}
 use Rattle.layout.proofs.get4.Tie as tie
-use Rattle.layout.proofs.get4.Reads as reads
-use Rattle.layout.proofs.get4.Lts as lts
-use Rattle.layout.proofs.wide.Reads as wide-reads
 
--- src/lib.rt:103:10
 shared-slice-read-wide : tie.Need-shared-slice-read-wide
 shared-slice-read-wide c = search needs
 
--- src/lib.rt:103:5
 wide-requires : tie.Need-wide-requires
 wide-requires c κs = search needs
 
--- src/lib.rt:103:33
 add-wide : tie.Need-add-wide
 add-wide c = search needs
 
--- src/lib.rt:103:31
 shared-slice-read-wide-2 : tie.Need-shared-slice-read-wide-2
 shared-slice-read-wide-2 c = search needs
 
--- src/lib.rt:103:26
 wide-requires-2 : tie.Need-wide-requires-2
 wide-requires-2 c κs = search needs
 
--- src/lib.rt:103:58
 add-wide-2 : tie.Need-add-wide-2
 add-wide-2 c = search needs
 
--- src/lib.rt:103:56
 shared-slice-read-wide-3 : tie.Need-shared-slice-read-wide-3
 shared-slice-read-wide-3 c = search needs
 
--- src/lib.rt:103:51
 wide-requires-3 : tie.Need-wide-requires-3
 wide-requires-3 c κs = search needs
 
--- src/lib.rt:103:82
 add-wide-3 : tie.Need-add-wide-3
 add-wide-3 c = search needs
 
--- src/lib.rt:103:80
 shared-slice-read-wide-4 : tie.Need-shared-slice-read-wide-4
 shared-slice-read-wide-4 c = search needs
 
--- src/lib.rt:103:75
 wide-requires-4 : tie.Need-wide-requires-4
 wide-requires-4 c κs = search needs
 
--- src/lib.rt:103:69
 mul-result : tie.Need-mul-result
 mul-result c = search needs
 
--- src/lib.rt:103:51
 add-result : tie.Need-add-result
 add-result c = search needs
 
--- src/lib.rt:103:44
 mul-result-2 : tie.Need-mul-result-2
 mul-result-2 c = search needs
 
--- src/lib.rt:103:26
 add-result-2 : tie.Need-add-result-2
 add-result-2 c = search needs
 
--- src/lib.rt:103:19
 mul-result-3 : tie.Need-mul-result-3
 mul-result-3 c = search needs
 
--- src/lib.rt:103:5
 add-result-3 : tie.Need-add-result-3
 add-result-3 c = search needs
 
--- src/lib.rt:99:1
 returns : tie.Need-returns
 returns c = search (needs, puts)
 

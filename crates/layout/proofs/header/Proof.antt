@@ -4,82 +4,61 @@ use Rattle.layout.proofs.Puts.{puts}
 use borrow.Author.Needs.{needs}
 use Rattle.layout.proofs.header.Statement.{statement}
 use Rattle.layout.proofs.header.Tie as tie
-use Rattle.layout.proofs.header.Reads as reads
-use Rattle.layout.proofs.header.Lts as lts
 
--- src/lib.rt:49:14
 cast-out : tie.Need-cast-out
 cast-out c = search needs
 
--- src/lib.rt:49:5
 slice-write-out : tie.Need-slice-write-out
 slice-write-out c = search needs
 
--- src/lib.rt:50:18
 cast-out-2 : tie.Need-cast-out-2
 cast-out-2 c = search needs
 
--- src/lib.rt:50:9
 add-out : tie.Need-add-out
 add-out c = search needs
 
--- src/lib.rt:50:5
 slice-write-out-2 : tie.Need-slice-write-out-2
 slice-write-out-2 c = simp length-set (omega arith)
 
--- src/lib.rt:51:18
 cast-out-3 : tie.Need-cast-out-3
 cast-out-3 c = search needs
 
--- src/lib.rt:51:9
 add-out-2 : tie.Need-add-out-2
 add-out-2 c = search needs
 
--- src/lib.rt:51:5
 slice-write-out-3 : tie.Need-slice-write-out-3
 slice-write-out-3 c = simp length-set (omega arith)
 
--- src/lib.rt:52:18
 cast-out-4 : tie.Need-cast-out-4
 cast-out-4 c = search needs
 
--- src/lib.rt:52:9
 add-out-3 : tie.Need-add-out-3
 add-out-3 c = search needs
 
--- src/lib.rt:52:5
 slice-write-out-4 : tie.Need-slice-write-out-4
 slice-write-out-4 c = simp length-set (omega arith)
 
--- src/lib.rt:53:18
 cast-out-5 : tie.Need-cast-out-5
 cast-out-5 c = search needs
 
--- src/lib.rt:53:9
 add-out-4 : tie.Need-add-out-4
 add-out-4 c = search needs
 
--- src/lib.rt:53:5
 slice-write-out-5 : tie.Need-slice-write-out-5
 slice-write-out-5 c = simp length-set (omega arith)
 
--- src/lib.rt:54:18
 cast-out-6 : tie.Need-cast-out-6
 cast-out-6 c = search needs
 
--- src/lib.rt:54:9
 add-out-5 : tie.Need-add-out-5
 add-out-5 c = search needs
 
--- src/lib.rt:54:5
 slice-write-out-6 : tie.Need-slice-write-out-6
 slice-write-out-6 c = simp length-set (omega arith)
 
--- src/lib.rt:41:1
 same-length : tie.Need-same-length
 same-length c = search needs
 
--- src/lib.rt:41:1
 returns : tie.Need-returns
 returns c = search (needs, puts)
 

@@ -4,34 +4,25 @@ use Rattle.layout.proofs.Puts.{puts}
 use borrow.Author.Needs.{needs}
 use Rattle.layout.proofs.put2.Statement.{statement}
 use Rattle.layout.proofs.put2.Tie as tie
-use Rattle.layout.proofs.put2.Reads as reads
-use Rattle.layout.proofs.put2.Lts as lts
 
--- src/lib.rt:14:14
 cast-out : tie.Need-cast-out
 cast-out c = search needs
 
--- src/lib.rt:14:5
 slice-write-out : tie.Need-slice-write-out
 slice-write-out c = search needs
 
--- src/lib.rt:15:18
 cast-out-2 : tie.Need-cast-out-2
 cast-out-2 c = search needs
 
--- src/lib.rt:15:9
 add-out : tie.Need-add-out
 add-out c = search needs
 
--- src/lib.rt:15:5
 slice-write-out-2 : tie.Need-slice-write-out-2
 slice-write-out-2 c = simp length-set (omega arith)
 
--- src/lib.rt:9:1
 same-length : tie.Need-same-length
 same-length c = search needs
 
--- src/lib.rt:9:1
 returns : tie.Need-returns
 returns c = search (needs, puts)
 

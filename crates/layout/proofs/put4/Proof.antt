@@ -4,58 +4,43 @@ use Rattle.layout.proofs.Puts.{puts}
 use borrow.Author.Needs.{needs}
 use Rattle.layout.proofs.put4.Statement.{statement}
 use Rattle.layout.proofs.put4.Tie as tie
-use Rattle.layout.proofs.put4.Reads as reads
-use Rattle.layout.proofs.put4.Lts as lts
 
--- src/lib.rt:26:14
 cast-out : tie.Need-cast-out
 cast-out c = search needs
 
--- src/lib.rt:26:5
 slice-write-out : tie.Need-slice-write-out
 slice-write-out c = search needs
 
--- src/lib.rt:27:18
 cast-out-2 : tie.Need-cast-out-2
 cast-out-2 c = search needs
 
--- src/lib.rt:27:9
 add-out : tie.Need-add-out
 add-out c = search needs
 
--- src/lib.rt:27:5
 slice-write-out-2 : tie.Need-slice-write-out-2
 slice-write-out-2 c = simp length-set (omega arith)
 
--- src/lib.rt:28:18
 cast-out-3 : tie.Need-cast-out-3
 cast-out-3 c = search needs
 
--- src/lib.rt:28:9
 add-out-2 : tie.Need-add-out-2
 add-out-2 c = search needs
 
--- src/lib.rt:28:5
 slice-write-out-3 : tie.Need-slice-write-out-3
 slice-write-out-3 c = simp length-set (omega arith)
 
--- src/lib.rt:29:18
 cast-out-4 : tie.Need-cast-out-4
 cast-out-4 c = search needs
 
--- src/lib.rt:29:9
 add-out-3 : tie.Need-add-out-3
 add-out-3 c = search needs
 
--- src/lib.rt:29:5
 slice-write-out-4 : tie.Need-slice-write-out-4
 slice-write-out-4 c = simp length-set (omega arith)
 
--- src/lib.rt:19:1
 same-length : tie.Need-same-length
 same-length c = simp length-set (omega arith)
 
--- src/lib.rt:19:1
 returns : tie.Need-returns
 returns c = search (needs, puts)
 

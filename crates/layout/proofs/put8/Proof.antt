@@ -4,106 +4,79 @@ use Rattle.layout.proofs.Puts.{puts}
 use borrow.Author.Needs.{needs}
 use Rattle.layout.proofs.put8.Statement.{statement}
 use Rattle.layout.proofs.put8.Tie as tie
-use Rattle.layout.proofs.put8.Reads as reads
-use Rattle.layout.proofs.put8.Lts as lts
 
--- src/lib.rt:30:14
 cast-out : tie.Need-cast-out
 cast-out c = search needs
 
--- src/lib.rt:30:5
 slice-write-out : tie.Need-slice-write-out
 slice-write-out c = search needs
 
--- src/lib.rt:31:18
 cast-out-2 : tie.Need-cast-out-2
 cast-out-2 c = search needs
 
--- src/lib.rt:31:9
 add-out : tie.Need-add-out
 add-out c = search needs
 
--- src/lib.rt:31:5
 slice-write-out-2 : tie.Need-slice-write-out-2
 slice-write-out-2 c = simp length-set (omega arith)
 
--- src/lib.rt:32:18
 cast-out-3 : tie.Need-cast-out-3
 cast-out-3 c = search needs
 
--- src/lib.rt:32:9
 add-out-2 : tie.Need-add-out-2
 add-out-2 c = search needs
 
--- src/lib.rt:32:5
 slice-write-out-3 : tie.Need-slice-write-out-3
 slice-write-out-3 c = simp length-set (omega arith)
 
--- src/lib.rt:33:18
 cast-out-4 : tie.Need-cast-out-4
 cast-out-4 c = search needs
 
--- src/lib.rt:33:9
 add-out-3 : tie.Need-add-out-3
 add-out-3 c = search needs
 
--- src/lib.rt:33:5
 slice-write-out-4 : tie.Need-slice-write-out-4
 slice-write-out-4 c = simp length-set (omega arith)
 
--- src/lib.rt:34:18
 cast-out-5 : tie.Need-cast-out-5
 cast-out-5 c = search needs
 
--- src/lib.rt:34:9
 add-out-4 : tie.Need-add-out-4
 add-out-4 c = search needs
 
--- src/lib.rt:34:5
 slice-write-out-5 : tie.Need-slice-write-out-5
 slice-write-out-5 c = simp length-set (omega arith)
 
--- src/lib.rt:35:18
 cast-out-6 : tie.Need-cast-out-6
 cast-out-6 c = search needs
 
--- src/lib.rt:35:9
 add-out-5 : tie.Need-add-out-5
 add-out-5 c = search needs
 
--- src/lib.rt:35:5
 slice-write-out-6 : tie.Need-slice-write-out-6
 slice-write-out-6 c = simp length-set (omega arith)
 
--- src/lib.rt:36:18
 cast-out-7 : tie.Need-cast-out-7
 cast-out-7 c = search needs
 
--- src/lib.rt:36:9
 add-out-6 : tie.Need-add-out-6
 add-out-6 c = search needs
 
--- src/lib.rt:36:5
 slice-write-out-7 : tie.Need-slice-write-out-7
 slice-write-out-7 c = simp length-set (omega arith)
 
--- src/lib.rt:37:18
 cast-out-8 : tie.Need-cast-out-8
 cast-out-8 c = search needs
 
--- src/lib.rt:37:9
 add-out-7 : tie.Need-add-out-7
 add-out-7 c = search needs
 
--- src/lib.rt:37:5
 slice-write-out-8 : tie.Need-slice-write-out-8
 slice-write-out-8 c = simp length-set (omega arith)
 
--- src/lib.rt:19:1
 same-length : tie.Need-same-length
 same-length c = simp length-set (omega arith)
 
--- src/lib.rt:19:1
 returns : tie.Need-returns
 returns c = search (needs, puts)
 

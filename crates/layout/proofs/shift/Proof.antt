@@ -2,8 +2,6 @@ use borrow.Author.Needs.{needs}
 use Rattle.layout.proofs.Puts.{puts, Shifting}
 use Rattle.layout.proofs.shift.Statement.{statement}
 use Rattle.layout.proofs.shift.Tie as tie
-use Rattle.layout.proofs.shift.Reads as reads
-use Rattle.layout.proofs.shift.Lts as lts
 
 abbrev Inv-loop : tie.InvT-loop
 Inv-loop out₀ at end n i₀ out i = Shifting out₀ at end n out i
@@ -11,39 +9,30 @@ Inv-loop out₀ at end n i₀ out i = Shifting out₀ at end n out i
 abbrev μ-loop : tie.MeasureT-loop
 μ-loop out₀ at end n i₀ out i = i
 
--- src/lib.rt:75:5
 loop-holds : tie.Need-loop-holds Inv-loop μ-loop
 loop-holds c = search (needs, puts)
 
--- src/lib.rt:76:9
 sub-i : tie.Need-sub-i Inv-loop μ-loop
 sub-i c = search (needs, puts)
 
--- src/lib.rt:77:22
 slice-read-out : tie.Need-slice-read-out Inv-loop μ-loop
 slice-read-out c = search (needs, puts)
 
--- src/lib.rt:77:13
 add-out : tie.Need-add-out Inv-loop μ-loop
 add-out c = search (needs, puts)
 
--- src/lib.rt:77:9
 slice-write-out : tie.Need-slice-write-out Inv-loop μ-loop
 slice-write-out c = search (needs, puts)
 
--- src/lib.rt:75:5
 loop-less : tie.Need-loop-less Inv-loop μ-loop
 loop-less c = search (needs, puts)
 
--- src/lib.rt:75:5
 loop-again : tie.Need-loop-again Inv-loop μ-loop
 loop-again c = search (needs, puts)
 
--- src/lib.rt:70:1
 same-length : tie.Need-same-length Inv-loop μ-loop
 same-length c = search (needs, puts)
 
--- src/lib.rt:70:1
 returns : tie.Need-returns Inv-loop μ-loop
 returns c = search (needs, puts)
 

@@ -21,47 +21,36 @@ decimal-at t = and 1 decimal-kinds.ps (is 1 decimal-kinds.ps μ-decimal t) decim
 abbrev decimal-below : ℕ → In 1 decimal-kinds.ps
 decimal-below t = and 1 decimal-kinds.ps (falls 1 decimal-kinds.ps _<_ μ-decimal t) decimal.Pre
 
--- src/lib.rt:44:36
 decimal-add-write-byte : (t : ℕ) → decimal-lts.Need-add-write-byte (write-byte-reads.Asked, write-byte-reads.Learnt, decimal-below t, decimal.Post) (decimal-at t) decimal.Post
 decimal-add-write-byte t c = search (needs, decimals)
 
--- src/lib.rt:44:35
 decimal-cast-write-byte : (t : ℕ) → decimal-lts.Need-cast-write-byte (write-byte-reads.Asked, write-byte-reads.Learnt, decimal-below t, decimal.Post) (decimal-at t) decimal.Post
 decimal-cast-write-byte t c = search (needs, decimals)
 
--- src/lib.rt:44:9
 decimal-write-byte-requires : (t : ℕ) → decimal-lts.Need-write-byte-requires (write-byte-reads.Asked, write-byte-reads.Learnt, decimal-below t, decimal.Post) (decimal-at t) decimal.Post
 decimal-write-byte-requires t c κs = omega (arith, length-last (c .before .before .before .args .v) (c .before .if1 .taken))
 
--- src/lib.rt:44:9
 decimal-same-length : (t : ℕ) → decimal-lts.Need-same-length (write-byte-reads.Asked, write-byte-reads.Learnt, decimal-below t, decimal.Post) (decimal-at t) decimal.Post
 decimal-same-length t c = search (needs, decimals)
 
--- src/lib.rt:44:9
 decimal-returns : (t : ℕ) → decimal-lts.Need-returns (write-byte-reads.Asked, write-byte-reads.Learnt, decimal-below t, decimal.Post) (decimal-at t) decimal.Post
 decimal-returns t c = search (needs, decimals)
 
--- src/lib.rt:46:9
 decimal-decimal-requires : (t : ℕ) → decimal-lts.Need-decimal-requires (write-byte-reads.Asked, write-byte-reads.Learnt, decimal-below t, decimal.Post) (decimal-at t) decimal.Post
 decimal-decimal-requires t c κs = (omega arith, omega (arith, length-next (c .before .before .before .args .v) (c .before .if1 .left)))
 
--- src/lib.rt:47:25
 decimal-add-write-byte-2 : (t : ℕ) → decimal-lts.Need-add-write-byte-2 (write-byte-reads.Asked, write-byte-reads.Learnt, decimal-below t, decimal.Post) (decimal-at t) decimal.Post
 decimal-add-write-byte-2 t c = search (needs, decimals)
 
--- src/lib.rt:47:24
 decimal-cast-write-byte-2 : (t : ℕ) → decimal-lts.Need-cast-write-byte-2 (write-byte-reads.Asked, write-byte-reads.Learnt, decimal-below t, decimal.Post) (decimal-at t) decimal.Post
 decimal-cast-write-byte-2 t c = search (needs, decimals)
 
--- src/lib.rt:47:5
 decimal-write-byte-requires-2 : (t : ℕ) → decimal-lts.Need-write-byte-requires-2 (write-byte-reads.Asked, write-byte-reads.Learnt, decimal-below t, decimal.Post) (decimal-at t) decimal.Post
 decimal-write-byte-requires-2 t c κs = omega (arith, length-next (c .before .before .before .before .before .before .before .args .v) (c .before .before .before .before .before .if1 .left), c .before .before .before .decimal .ensures .high)
 
--- src/lib.rt:39:1
 decimal-same-length-2 : (t : ℕ) → decimal-lts.Need-same-length-2 (write-byte-reads.Asked, write-byte-reads.Learnt, decimal-below t, decimal.Post) (decimal-at t) decimal.Post
 decimal-same-length-2 t c = search (needs, decimals)
 
--- src/lib.rt:39:1
 decimal-returns-2 : (t : ℕ) → decimal-lts.Need-returns-2 (write-byte-reads.Asked, write-byte-reads.Learnt, decimal-below t, decimal.Post) (decimal-at t) decimal.Post
 decimal-returns-2 t c = search (needs, decimals)
 

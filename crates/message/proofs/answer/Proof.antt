@@ -3,23 +3,16 @@ use mathlib.Core.Path.{refl}
 use borrow.Author.Needs.{needs}
 use Rattle.message.proofs.answer.Statement.{statement}
 use Rattle.message.proofs.answer.Tie as tie
-use Rattle.message.proofs.answer.Reads as reads
-use Rattle.message.proofs.answer.Lts as lts
-use Rattle.layout.proofs.copy.Reads as copy-reads
 
--- src/lib.rt:349:9
 returns : tie.Need-returns
 returns c = ends-full _ _ _ _ refl refl (c .if1 .taken)
 
--- src/lib.rt:354:5
 copy-requires : tie.Need-copy-requires
 copy-requires c κs = search needs
 
--- src/lib.rt:344:1
 same-length : tie.Need-same-length
 same-length c = search needs
 
--- src/lib.rt:344:1
 returns-2 : tie.Need-returns-2
 returns-2 c = ends-written _ _ _ _ _ refl refl (c .before .before .before .before .if1 .left) (c .before .before .copy .ensures)
 

@@ -4,33 +4,22 @@ use native.Mathlib.Omega.{arith}
 use borrow.Author.Needs.{needs}
 use Rattle.message.proofs.escape_unicode.Statement.{statement}
 use Rattle.message.proofs.escape_unicode.Tie as tie
-use Rattle.message.proofs.escape_unicode.Reads as reads
-use Rattle.message.proofs.escape_unicode.Lts as lts
-use Rattle.message.proofs.hex.Reads as hex-reads
-use Rattle.message.proofs.write_byte.Reads as write-byte-reads
-use Rattle.message.proofs.write_str.Reads as write-str-reads
 
--- src/lib.rt:77:31
 slice-aggregate-write-str : tie.Need-slice-aggregate-write-str
 slice-aggregate-write-str c = search needs
 
--- src/lib.rt:77:9
 write-str-requires : tie.Need-write-str-requires
 write-str-requires c κs = search needs
 
--- src/lib.rt:78:9
 hex-requires : tie.Need-hex-requires
 hex-requires c κs = search needs
 
--- src/lib.rt:79:5
 write-byte-requires : tie.Need-write-byte-requires
 write-byte-requires c κs = search needs
 
--- src/lib.rt:73:1
 same-length : tie.Need-same-length
 same-length c = search needs
 
--- src/lib.rt:73:1
 returns : tie.Need-returns
 returns c = put-as _ _ _ 6 6 _ _ _ refl (omega arith) (put-then _ _ _ 5 1 6 _ _ _ _ _ (omega arith) (put-then _ _ _ 3 2 5 _ _ _ _ _ (omega arith) (c .before .before .before .before .before .before .before .before .before .before .write-str .ensures) (c .before .before .before .before .before .before .hex .ensures)) (c .before .before .write-byte .ensures))
 

@@ -5,9 +5,6 @@ use lib.ListN.{length}
 use Rattle.message.proofs.Escapes.{Escaping, escaping}
 use Rattle.message.proofs.escaped.Statement.{statement}
 use Rattle.message.proofs.escaped.Tie as tie
-use Rattle.message.proofs.escaped.Reads as reads
-use Rattle.message.proofs.escaped.Lts as lts
-use Rattle.message.proofs.escape.Reads as escape-reads
 
 abbrev Inv-loop : tie.InvT-loop
 Inv-loop out₀ o t i₀ p₀ out i p = (length out ≡ length out₀) × Escaping o t out₀ out i p
@@ -15,35 +12,27 @@ Inv-loop out₀ o t i₀ p₀ out i p = (length out ≡ length out₀) × Escapi
 abbrev μ-loop : tie.MeasureT-loop
 μ-loop out₀ o t i₀ p₀ out i p = length t - i
 
--- src/lib.rt:116:5
 loop-holds : tie.Need-loop-holds Inv-loop μ-loop
 loop-holds c = search (needs, escaping)
 
--- src/lib.rt:117:28
 shared-slice-read-escape : tie.Need-shared-slice-read-escape Inv-loop μ-loop
 shared-slice-read-escape c = search (needs, escaping)
 
--- src/lib.rt:117:9
 escape-requires : tie.Need-escape-requires Inv-loop μ-loop
 escape-requires c κs = search (needs, escaping)
 
--- src/lib.rt:118:9
 add-i : tie.Need-add-i Inv-loop μ-loop
 add-i c = search (needs, escaping)
 
--- src/lib.rt:116:5
 loop-less : tie.Need-loop-less Inv-loop μ-loop
 loop-less c = search (needs, escaping)
 
--- src/lib.rt:116:5
 loop-again : tie.Need-loop-again Inv-loop μ-loop
 loop-again c = search (needs, escaping)
 
--- src/lib.rt:110:1
 same-length : tie.Need-same-length Inv-loop μ-loop
 same-length c = search (needs, escaping)
 
--- src/lib.rt:110:1
 returns : tie.Need-returns Inv-loop μ-loop
 returns c = search (needs, escaping)
 

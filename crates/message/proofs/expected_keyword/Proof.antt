@@ -2,87 +2,64 @@ use Rattle.message.proofs.Wordings.{wordings}
 use borrow.Author.Needs.{needs}
 use Rattle.message.proofs.expected_keyword.Statement.{statement}
 use Rattle.message.proofs.expected_keyword.Tie as tie
-use Rattle.message.proofs.expected_keyword.Reads as reads
-use Rattle.message.proofs.expected_keyword.Lts as lts
-use Rattle.message.proofs.expected.Reads as expected-reads
 
--- src/lib.rt:299:39
 enum-told : tie.Need-enum-told
 enum-told c = search needs
 
--- src/lib.rt:299:44
 slice-aggregate-expected : tie.Need-slice-aggregate-expected
 slice-aggregate-expected c = search needs
 
--- src/lib.rt:299:30
 expected-requires : tie.Need-expected-requires
 expected-requires c κs = search needs
 
--- src/lib.rt:300:42
 enum-told-2 : tie.Need-enum-told-2
 enum-told-2 c = search needs
 
--- src/lib.rt:300:47
 slice-aggregate-expected-2 : tie.Need-slice-aggregate-expected-2
 slice-aggregate-expected-2 c = search needs
 
--- src/lib.rt:300:33
 expected-requires-2 : tie.Need-expected-requires-2
 expected-requires-2 c κs = search needs
 
--- src/lib.rt:301:36
 enum-told-3 : tie.Need-enum-told-3
 enum-told-3 c = search needs
 
--- src/lib.rt:301:41
 slice-aggregate-expected-3 : tie.Need-slice-aggregate-expected-3
 slice-aggregate-expected-3 c = search needs
 
--- src/lib.rt:301:27
 expected-requires-3 : tie.Need-expected-requires-3
 expected-requires-3 c κs = search needs
 
--- src/lib.rt:302:36
 enum-told-4 : tie.Need-enum-told-4
 enum-told-4 c = search needs
 
--- src/lib.rt:302:41
 slice-aggregate-expected-4 : tie.Need-slice-aggregate-expected-4
 slice-aggregate-expected-4 c = search needs
 
--- src/lib.rt:302:27
 expected-requires-4 : tie.Need-expected-requires-4
 expected-requires-4 c κs = search needs
 
--- src/lib.rt:294:1
 same-length : tie.Need-same-length
 same-length c = search needs
 
--- src/lib.rt:294:1
 returns : tie.Need-returns
 returns c = search (needs, wordings)
 
--- src/lib.rt:294:1
 same-length-2 : tie.Need-same-length-2
 same-length-2 c = search needs
 
--- src/lib.rt:294:1
 returns-2 : tie.Need-returns-2
 returns-2 c = search (needs, wordings)
 
--- src/lib.rt:294:1
 same-length-3 : tie.Need-same-length-3
 same-length-3 c = search needs
 
--- src/lib.rt:294:1
 returns-3 : tie.Need-returns-3
 returns-3 c = search (needs, wordings)
 
--- src/lib.rt:294:1
 same-length-4 : tie.Need-same-length-4
 same-length-4 c = search needs
 
--- src/lib.rt:294:1
 returns-4 : tie.Need-returns-4
 returns-4 c = search (needs, wordings)
 

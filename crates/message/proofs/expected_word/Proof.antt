@@ -2,31 +2,22 @@ use Rattle.message.proofs.Wordings.{wordings}
 use borrow.Author.Needs.{needs}
 use Rattle.message.proofs.expected_word.Statement.{statement}
 use Rattle.message.proofs.expected_word.Tie as tie
-use Rattle.message.proofs.expected_word.Reads as reads
-use Rattle.message.proofs.expected_word.Lts as lts
-use Rattle.message.proofs.expected_keyword.Reads as expected-keyword-reads
 
--- src/lib.rt:311:22
 enum-known-k : tie.Need-enum-known-k
 enum-known-k c = search needs
 
--- src/lib.rt:311:28
 expected-keyword-requires : tie.Need-expected-keyword-requires
 expected-keyword-requires c κs = search needs
 
--- src/lib.rt:312:28
 enum-told : tie.Need-enum-told
 enum-told c = search needs
 
--- src/lib.rt:306:1
 same-length : tie.Need-same-length
 same-length c = search needs
 
--- src/lib.rt:306:1
 returns : tie.Need-returns
 returns c = search (needs, wordings)
 
--- src/lib.rt:306:1
 returns-2 : tie.Need-returns-2
 returns-2 c = search (needs, wordings)
 

@@ -2,48 +2,34 @@ use Rattle.message.proofs.Escapes.{escaping}
 use borrow.Author.Needs.{needs}
 use Rattle.message.proofs.hex.Statement.{statement}
 use Rattle.message.proofs.hex.Tie as tie
-use Rattle.message.proofs.hex.Reads as reads
-use Rattle.message.proofs.hex.Lts as lts
-use Rattle.message.proofs.hex_digit.Reads as hex-digit-reads
-use Rattle.message.proofs.write_byte.Reads as write-byte-reads
 
--- src/lib.rt:67:35
 hex-digit-requires : tie.Need-hex-digit-requires
 hex-digit-requires c κs = search needs
 
--- src/lib.rt:67:9
 write-byte-requires : tie.Need-write-byte-requires
 write-byte-requires c κs = search needs
 
--- src/lib.rt:67:9
 same-length : tie.Need-same-length
 same-length c = search needs
 
--- src/lib.rt:67:9
 returns : tie.Need-returns
 returns c = search (needs, escaping)
 
--- src/lib.rt:69:32
 hex-digit-requires-2 : tie.Need-hex-digit-requires-2
 hex-digit-requires-2 c κs = search needs
 
--- src/lib.rt:69:9
 write-byte-requires-2 : tie.Need-write-byte-requires-2
 write-byte-requires-2 c κs = search needs
 
--- src/lib.rt:70:24
 hex-digit-requires-3 : tie.Need-hex-digit-requires-3
 hex-digit-requires-3 c κs = search needs
 
--- src/lib.rt:70:5
 write-byte-requires-3 : tie.Need-write-byte-requires-3
 write-byte-requires-3 c κs = search needs
 
--- src/lib.rt:62:1
 same-length-2 : tie.Need-same-length-2
 same-length-2 c = search needs
 
--- src/lib.rt:62:1
 returns-2 : tie.Need-returns-2
 returns-2 c = search (needs, escaping)
 

@@ -2,36 +2,25 @@ use Rattle.message.proofs.Calls.{message-accepted, message-refused}
 use borrow.Author.Needs.{needs}
 use Rattle.message.proofs.message.Statement.{statement}
 use Rattle.message.proofs.message.Tie as tie
-use Rattle.message.proofs.message.Reads as reads
-use Rattle.message.proofs.message.Lts as lts
-use Rattle.message.proofs.display.Reads as display-reads
-use Rattle.message.proofs.read.Reads as read-reads
 
--- src/lib.rt:395:9
 read-requires : tie.Need-read-requires
 read-requires c κs = search needs
 
--- src/lib.rt:397:43
 enum-told : tie.Need-enum-told
 enum-told c = search needs
 
--- src/lib.rt:398:27
 enum-known-r : tie.Need-enum-known-r
 enum-known-r c = search needs
 
--- src/lib.rt:398:50
 display-requires : tie.Need-display-requires
 display-requires c κs = search needs
 
--- src/lib.rt:391:1
 returns : tie.Need-returns
 returns c = message-accepted _ _ _ _ (c .before .before .read .ensures) _ (c .enum-told .given .1)
 
--- src/lib.rt:391:1
 same-length : tie.Need-same-length
 same-length c = search needs
 
--- src/lib.rt:391:1
 returns-2 : tie.Need-returns-2
 returns-2 c = message-refused _ _ _ _ (c .before .before .before .before .before .before .before .read .ensures) _ _ _ _ (c .before .before .before .before .before .r .given .1) (c .before .before .display .ensures .0) (c .before .before .display .ensures .1)
 

@@ -2,91 +2,64 @@ use Rattle.message.proofs.Calls.{read-as}
 use borrow.Author.Needs.{needs}
 use Rattle.message.proofs.read.Statement.{statement}
 use Rattle.message.proofs.read.Tie as tie
-use Rattle.message.proofs.read.Reads as reads
-use Rattle.message.proofs.read.Lts as lts
-use Rattle.declaration.proofs.parse_constructor.Reads as parse-constructor-reads
-use Rattle.declaration.proofs.parse_declaration.Reads as parse-declaration-reads
-use Rattle.declaration.proofs.parse_error.Reads as parse-error-reads
-use Rattle.declaration.proofs.parse_event.Reads as parse-event-reads
-use Rattle.declaration.proofs.parse_function.Reads as parse-function-reads
 
--- src/lib.rt:379:63
 enum-told : tie.Need-enum-told
 enum-told c = search needs
 
--- src/lib.rt:379:63
 slice-aggregate-parse-declaration : tie.Need-slice-aggregate-parse-declaration
 slice-aggregate-parse-declaration c = search needs
 
--- src/lib.rt:379:26
 parse-declaration-requires : tie.Need-parse-declaration-requires
 parse-declaration-requires c κs = search needs
 
--- src/lib.rt:380:61
 enum-told-2 : tie.Need-enum-told-2
 enum-told-2 c = search needs
 
--- src/lib.rt:380:61
 slice-aggregate-parse-function : tie.Need-slice-aggregate-parse-function
 slice-aggregate-parse-function c = search needs
 
--- src/lib.rt:380:27
 parse-function-requires : tie.Need-parse-function-requires
 parse-function-requires c κs = search needs
 
--- src/lib.rt:381:67
 enum-told-3 : tie.Need-enum-told-3
 enum-told-3 c = search needs
 
--- src/lib.rt:381:67
 slice-aggregate-parse-constructor : tie.Need-slice-aggregate-parse-constructor
 slice-aggregate-parse-constructor c = search needs
 
--- src/lib.rt:381:30
 parse-constructor-requires : tie.Need-parse-constructor-requires
 parse-constructor-requires c κs = search needs
 
--- src/lib.rt:382:55
 enum-told-4 : tie.Need-enum-told-4
 enum-told-4 c = search needs
 
--- src/lib.rt:382:55
 slice-aggregate-parse-event : tie.Need-slice-aggregate-parse-event
 slice-aggregate-parse-event c = search needs
 
--- src/lib.rt:382:24
 parse-event-requires : tie.Need-parse-event-requires
 parse-event-requires c κs = search needs
 
--- src/lib.rt:383:55
 enum-told-5 : tie.Need-enum-told-5
 enum-told-5 c = search needs
 
--- src/lib.rt:383:55
 slice-aggregate-parse-error : tie.Need-slice-aggregate-parse-error
 slice-aggregate-parse-error c = search needs
 
--- src/lib.rt:383:24
 parse-error-requires : tie.Need-parse-error-requires
 parse-error-requires c κs = search needs
 
--- src/lib.rt:374:1
 returns : tie.Need-returns
 returns c = read-as _ _ _ _ (c .before .before .before .enum-told .given .1) (c .before .parse-declaration .ensures .0)
 
--- src/lib.rt:374:1
 returns-2 : tie.Need-returns-2
 returns-2 c = read-as _ _ _ _ (c .before .before .before .enum-told2 .given .1) (c .before .parse-function .ensures .0)
 
--- src/lib.rt:374:1
 returns-3 : tie.Need-returns-3
 returns-3 c = read-as _ _ _ _ (c .before .before .before .enum-told3 .given .1) (c .before .parse-constructor .ensures .0)
 
--- src/lib.rt:374:1
 returns-4 : tie.Need-returns-4
 returns-4 c = read-as _ _ _ _ (c .before .before .before .enum-told4 .given .1) (c .before .parse-event .ensures .0)
 
--- src/lib.rt:374:1
 returns-5 : tie.Need-returns-5
 returns-5 c = read-as _ _ _ _ (c .before .before .before .enum-told5 .given .1) (c .before .parse-error .ensures .0)
 

@@ -6,33 +6,22 @@ use native.Mathlib.Omega.{arith}
 use borrow.Author.Needs.{needs}
 use Rattle.message.proofs.right_side.Statement.{statement}
 use Rattle.message.proofs.right_side.Tie as tie
-use Rattle.message.proofs.right_side.Reads as reads
-use Rattle.message.proofs.right_side.Lts as lts
-use Rattle.message.proofs.part.Reads as part-reads
-use Rattle.message.proofs.write_str.Reads as write-str-reads
-use Rattle.text.proofs.valid_length.Reads as valid-length-reads
 
--- src/lib.rt:186:9
 part-requires : tie.Need-part-requires
 part-requires c κs = search needs
 
--- src/lib.rt:187:9
 valid-length-requires : tie.Need-valid-length-requires
 valid-length-requires c κs = search needs
 
--- src/lib.rt:188:23
 slice-aggregate-write-str : tie.Need-slice-aggregate-write-str
 slice-aggregate-write-str c = sym (length-take-le _ _ (c .before .before .valid-length .ensures .1))
 
--- src/lib.rt:188:5
 write-str-requires : tie.Need-write-str-requires
 write-str-requires c κs = simp length-take (omega (arith, side-long (c .before .before .before .before .before .before .args .s .now) (c .before .before .before .before .before .before .args .p) 10 _ (c .before .before .before .part .ensures) (omega arith)))
 
--- src/lib.rt:182:1
 same-length : tie.Need-same-length
 same-length c = search needs
 
--- src/lib.rt:182:1
 returns : tie.Need-returns
 returns c = right-whole _ _ _ _ (c .before .before .before .before .before .before .before .before .before .args .s .now) (c .before .before .before .before .before .before .before .before .before .args .p) 10 _ (c .before .before .before .before .before .before .part .ensures) (omega arith) _ (c .before .before .before .before .before .valid-length .ensures .0) (c .before .before .write-str .ensures)
 

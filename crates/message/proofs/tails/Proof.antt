@@ -6,9 +6,6 @@ use Rattle.model.specs.Text.{span, one, isTail}
 use Rattle.model.proofs.Scans.{scanning}
 use Rattle.message.proofs.tails.Statement.{statement}
 use Rattle.message.proofs.tails.Tie as tie
-use Rattle.message.proofs.tails.Reads as reads
-use Rattle.message.proofs.tails.Lts as lts
-use Rattle.message.proofs.is_tail.Reads as is-tail-reads
 
 abbrev Inv-loop : tie.InvT-loop
 Inv-loop t i₀ i = (i ≤ length t) × (i + span (one isTail) (drop i t) ≡ span (one isTail) t)
@@ -16,35 +13,27 @@ Inv-loop t i₀ i = (i ≤ length t) × (i + span (one isTail) (drop i t) ≡ sp
 abbrev μ-loop : tie.MeasureT-loop
 μ-loop t i₀ i = length t - i
 
--- src/lib.rt:150:5
 loop-holds : tie.Need-loop-holds Inv-loop μ-loop
 loop-holds c = search (needs, scanning)
 
--- src/lib.rt:151:20
 shared-slice-read-is-tail : tie.Need-shared-slice-read-is-tail Inv-loop μ-loop
 shared-slice-read-is-tail c = search (needs, scanning)
 
--- src/lib.rt:151:12
 is-tail-requires : tie.Need-is-tail-requires Inv-loop μ-loop
 is-tail-requires c κs = search (needs, scanning)
 
--- src/lib.rt:152:13
 add-i : tie.Need-add-i Inv-loop μ-loop
 add-i c = search (needs, scanning)
 
--- src/lib.rt:150:5
 loop-less : tie.Need-loop-less Inv-loop μ-loop
 loop-less c = search (needs, scanning)
 
--- src/lib.rt:150:5
 loop-again : tie.Need-loop-again Inv-loop μ-loop
 loop-again c = search (needs, scanning)
 
--- src/lib.rt:154:13
 returns : tie.Need-returns Inv-loop μ-loop
 returns c = search (needs, scanning)
 
--- src/lib.rt:146:1
 returns-2 : tie.Need-returns-2 Inv-loop μ-loop
 returns-2 c = search (needs, scanning)
 

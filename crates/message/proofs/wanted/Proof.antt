@@ -2,51 +2,37 @@ use Rattle.message.proofs.Wordings.{wordings}
 use borrow.Author.Needs.{needs}
 use Rattle.message.proofs.wanted.Statement.{statement}
 use Rattle.message.proofs.wanted.Tie as tie
-use Rattle.message.proofs.wanted.Reads as reads
-use Rattle.message.proofs.wanted.Lts as lts
-use Rattle.message.proofs.opening.Reads as opening-reads
 
--- src/lib.rt:257:26
 enum-told : tie.Need-enum-told
 enum-told c = search needs
 
--- src/lib.rt:257:26
 opening-requires : tie.Need-opening-requires
 opening-requires c κs = search needs
 
--- src/lib.rt:258:40
 enum-told-2 : tie.Need-enum-told-2
 enum-told-2 c = search needs
 
--- src/lib.rt:259:43
 enum-told-3 : tie.Need-enum-told-3
 enum-told-3 c = search needs
 
--- src/lib.rt:260:37
 enum-told-4 : tie.Need-enum-told-4
 enum-told-4 c = search needs
 
--- src/lib.rt:261:37
 enum-told-5 : tie.Need-enum-told-5
 enum-told-5 c = search needs
 
--- src/lib.rt:253:1
 returns : tie.Need-returns
 returns c = search (needs, wordings)
 
--- src/lib.rt:253:1
 returns-2 : tie.Need-returns-2
 returns-2 c = search (needs, wordings)
 
--- src/lib.rt:253:1
 returns-3 : tie.Need-returns-3
 returns-3 c = search (needs, wordings)
 
--- src/lib.rt:253:1
 returns-4 : tie.Need-returns-4
 returns-4 c = search (needs, wordings)
 
--- src/lib.rt:253:1
 returns-5 : tie.Need-returns-5
 returns-5 c = search (needs, wordings)
 

@@ -3,11 +3,9 @@ use Rattle.record.proofs.Lengths.{lengths}
 use Rattle.record.proofs.bare.Statement.{statement}
 use Rattle.record.proofs.bare.Tie as tie
 
--- src/lib.rt:108:9
 returns : tie.Need-returns
 returns c = search (needs, lengths)
 
--- src/lib.rt:104:1
 returns-2 : tie.Need-returns-2
 returns-2 c = search (needs, lengths)
 

@@ -10,23 +10,18 @@ Inv-loop v n₀ rest₀ n rest = Counted v rest n
 abbrev μ-loop : tie.MeasureT-loop
 μ-loop v n₀ rest₀ n rest = rest
 
--- src/lib.rt:43:5
 loop-holds : tie.Need-loop-holds Inv-loop μ-loop
 loop-holds c = search (needs, lengths)
 
--- src/lib.rt:45:9
 add-n : tie.Need-add-n Inv-loop μ-loop
 add-n c = search (needs, lengths)
 
--- src/lib.rt:43:5
 loop-less : tie.Need-loop-less Inv-loop μ-loop
 loop-less c = search (needs, lengths)
 
--- src/lib.rt:43:5
 loop-again : tie.Need-loop-again Inv-loop μ-loop
 loop-again c = search (needs, lengths)
 
--- src/lib.rt:38:1
 returns : tie.Need-returns Inv-loop μ-loop
 returns c = search (needs, lengths)
 

@@ -3,23 +3,18 @@ use borrow.Author.Needs.{needs}
 use Rattle.record.proofs.elementary.Statement.{statement}
 use Rattle.record.proofs.elementary.Tie as tie
 
--- src/lib.rt:163:9
 numbered-requires : tie.Need-numbered-requires
 numbered-requires c κs = search needs
 
--- src/lib.rt:163:9
 returns : tie.Need-returns
 returns c = search needs
 
--- src/lib.rt:166:9
 worded-requires : tie.Need-worded-requires
 worded-requires c κs = search needs
 
--- src/lib.rt:166:9
 returns-2 : tie.Need-returns-2
 returns-2 c = (elementary-alone _ _ _ (c .before .if2 .taken) (c .worded .ensures .0), c .worded .ensures .1)
 
--- src/lib.rt:159:1
 returns-3 : tie.Need-returns-3
 returns-3 c = (measured-none _ (elementary-odd _ _ (c .before .if1 .left) (c .if2 .left)), search needs)
 

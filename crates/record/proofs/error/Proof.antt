@@ -3,31 +3,24 @@ use borrow.Author.Needs.{needs}
 use Rattle.record.proofs.error.Statement.{statement}
 use Rattle.record.proofs.error.Tie as tie
 
--- src/lib.rt:494:9
 name-end-requires : tie.Need-name-end-requires
 name-end-requires c κs = search needs
 
--- src/lib.rt:496:9
 returns : tie.Need-returns
 returns c = search (needs, tops)
 
--- src/lib.rt:498:9
 list-requires : tie.Need-list-requires
 list-requires c κs = search needs
 
--- src/lib.rt:500:9
 returns-2 : tie.Need-returns-2
 returns-2 c = search (needs, tops)
 
--- src/lib.rt
 missing-requires : tie.Need-missing-requires
 missing-requires c κs = search needs
 
--- src/lib.rt:503:9
 returns-3 : tie.Need-returns-3
 returns-3 c = search (needs, tops)
 
--- src/lib.rt:490:1
 returns-4 : tie.Need-returns-4
 returns-4 c = search (needs, tops)
 

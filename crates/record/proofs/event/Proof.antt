@@ -3,43 +3,33 @@ use borrow.Author.Needs.{needs}
 use Rattle.record.proofs.event.Statement.{statement}
 use Rattle.record.proofs.event.Tie as tie
 
--- src/lib.rt:467:9
 returns : tie.Need-returns
 returns c = search (needs, tops)
 
--- src/lib.rt:469:12
 get2-requires : tie.Need-get2-requires
 get2-requires c κs = search needs
 
--- src/lib.rt:470:9
 returns-2 : tie.Need-returns-2
 returns-2 c = search (needs, tops)
 
--- src/lib.rt:472:9
 name-end-requires : tie.Need-name-end-requires
 name-end-requires c κs = search needs
 
--- src/lib.rt:474:9
 returns-3 : tie.Need-returns-3
 returns-3 c = search (needs, tops)
 
--- src/lib.rt:476:9
 list-requires : tie.Need-list-requires
 list-requires c κs = search needs
 
--- src/lib.rt:478:9
 returns-4 : tie.Need-returns-4
 returns-4 c = search (needs, tops)
 
--- src/lib.rt
 missing-requires : tie.Need-missing-requires
 missing-requires c κs = search needs
 
--- src/lib.rt:481:9
 returns-5 : tie.Need-returns-5
 returns-5 c = search (needs, tops)
 
--- src/lib.rt:462:1
 returns-6 : tie.Need-returns-6
 returns-6 c = search (needs, tops)
 

@@ -3,15 +3,12 @@ use borrow.Author.Needs.{needs}
 use Rattle.record.proofs.is_field_name.Statement.{statement}
 use Rattle.record.proofs.is_field_name.Tie as tie
 
--- src/lib.rt:195:9
 returns : tie.Need-returns
 returns c = search (needs, naming)
 
--- src/lib.rt:197:5
 is-word-requires : tie.Need-is-word-requires
 is-word-requires c κs = search needs
 
--- src/lib.rt:191:1
 returns-2 : tie.Need-returns-2
 returns-2 c = search (needs, naming)
 

@@ -5,11 +5,9 @@ use borrow.Author.Needs.{needs}
 use Rattle.record.proofs.letters.Statement.{statement}
 use Rattle.record.proofs.letters.Tie as tie
 
--- src/lib.rt:206:5
 others-requires : tie.Need-others-requires
 others-requires c κs = search needs
 
--- src/lib.rt:203:1
 returns : tie.Need-returns
 returns c = λ q. letters-all _ (sym (c .others .ensures) ∙ eqb-true _ _ q)
 

@@ -3,63 +3,48 @@ use borrow.Author.Needs.{needs}
 use Rattle.record.proofs.list.Statement.{statement}
 use Rattle.record.proofs.list.Tie as tie
 
--- src/lib.rt:377:13
 sub-t : tie.Need-sub-t
 sub-t c = search needs
 
--- src/lib.rt:377:13
 part-t-start : tie.Need-part-t-start
 part-t-start c = search needs
 
--- src/lib.rt:377:13
 part-t-end : tie.Need-part-t-end
 part-t-end c = search needs
 
--- src/lib.rt:378:9
 record-length-requires : tie.Need-record-length-requires
 record-length-requires c κs = search needs
 
--- src/lib.rt:380:9
 missing-requires : tie.Need-missing-requires
 missing-requires c κs = search needs
 
--- src/lib.rt:380:9
 returns : tie.Need-returns
 returns c = search (needs, tops)
 
--- src/lib.rt:382:8
 get2-requires : tie.Need-get2-requires
 get2-requires c κs = search needs
 
--- src/lib.rt:384:19
 add-t10 : tie.Need-add-t10
 add-t10 c = search needs
 
--- src/lib.rt:385:17
 add-t11 : tie.Need-add-t11
 add-t11 c = search needs
 
--- src/lib.rt:386:26
 part-fields-start : tie.Need-part-fields-start
 part-fields-start c = search needs
 
--- src/lib.rt:386:26
 part-fields-end : tie.Need-part-fields-end
 part-fields-end c = search needs
 
--- src/lib.rt:386:19
 fields-requires : tie.Need-fields-requires
 fields-requires c κs = search needs
 
--- src/lib.rt:383:9
 returns-2 : tie.Need-returns-2
 returns-2 c = search (needs, tops)
 
--- src/lib.rt:389:5
 missing-requires-2 : tie.Need-missing-requires-2
 missing-requires-2 c κs = search needs
 
--- src/lib.rt:373:1
 returns-3 : tie.Need-returns-3
 returns-3 c = search (needs, tops)
 

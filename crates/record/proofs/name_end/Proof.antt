@@ -3,55 +3,42 @@ use borrow.Author.Needs.{needs}
 use Rattle.record.proofs.name_end.Statement.{statement}
 use Rattle.record.proofs.name_end.Tie as tie
 
--- src/lib.rt:359:13
 sub-t : tie.Need-sub-t
 sub-t c = search needs
 
--- src/lib.rt:359:13
 part-t-start : tie.Need-part-t-start
 part-t-start c = search needs
 
--- src/lib.rt:359:13
 part-t-end : tie.Need-part-t-end
 part-t-end c = search needs
 
--- src/lib.rt:360:9
 record-length-requires : tie.Need-record-length-requires
 record-length-requires c κs = search needs
 
--- src/lib.rt:362:9
 returns : tie.Need-returns
 returns c = search (needs, tops)
 
--- src/lib.rt:364:8
 get2-requires : tie.Need-get2-requires
 get2-requires c κs = search needs
 
--- src/lib.rt:365:20
 part-is-word-start : tie.Need-part-is-word-start
 part-is-word-start c = search needs
 
--- src/lib.rt:365:20
 part-is-word-end : tie.Need-part-is-word-end
 part-is-word-end c = search needs
 
--- src/lib.rt:365:12
 is-word-requires : tie.Need-is-word-requires
 is-word-requires c κs = search needs
 
--- src/lib.rt:366:20
 add-result : tie.Need-add-result
 add-result c = search needs
 
--- src/lib.rt:366:13
 returns-2 : tie.Need-returns-2
 returns-2 c = search (needs, tops)
 
--- src/lib.rt:355:1
 returns-3 : tie.Need-returns-3
 returns-3 c = search (needs, tops)
 
--- src/lib.rt:355:1
 returns-4 : tie.Need-returns-4
 returns-4 c = search (needs, tops)
 

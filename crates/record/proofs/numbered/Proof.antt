@@ -3,31 +3,24 @@ use borrow.Author.Needs.{needs}
 use Rattle.record.proofs.numbered.Statement.{statement}
 use Rattle.record.proofs.numbered.Tie as tie
 
--- src/lib.rt:136:14
 width-requires : tie.Need-width-requires
 width-requires c κs = search needs
 
--- src/lib.rt:137:14
 width-requires-2 : tie.Need-width-requires-2
 width-requires-2 c κs = search needs
 
--- src/lib.rt:138:14
 byte-length-requires : tie.Need-byte-length-requires
 byte-length-requires c κs = search needs
 
--- src/lib.rt:131:1
 returns : tie.Need-returns
 returns c = search (needs, lengths)
 
--- src/lib.rt:131:1
 returns-2 : tie.Need-returns-2
 returns-2 c = search (needs, lengths)
 
--- src/lib.rt:131:1
 returns-3 : tie.Need-returns-3
 returns-3 c = search (needs, lengths)
 
--- src/lib.rt:131:1
 returns-4 : tie.Need-returns-4
 returns-4 c = (measured-none _ (elementary-numbered _ _ (λ z. search needs) (c .match .rest .0 .0 .1) (c .match .rest .0 .1) (c .match .rest .1)), search needs)
 

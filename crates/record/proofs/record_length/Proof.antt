@@ -3,19 +3,15 @@ use borrow.Author.Needs.{needs}
 use Rattle.record.proofs.record_length.Statement.{statement}
 use Rattle.record.proofs.record_length.Tie as tie
 
--- src/lib.rt:20:9
 returns : tie.Need-returns
 returns c = search (needs, heads)
 
--- src/lib.rt:22:9
 get4-requires : tie.Need-get4-requires
 get4-requires c κs = search needs
 
--- src/lib.rt:24:9
 returns-2 : tie.Need-returns-2
 returns-2 c = search (needs, heads)
 
--- src/lib.rt:16:1
 returns-3 : tie.Need-returns-3
 returns-3 c = search (needs, heads)
 

@@ -3,15 +3,12 @@ use Rattle.record.proofs.Lengths.{lengths}
 use Rattle.record.proofs.small_length.Statement.{statement}
 use Rattle.record.proofs.small_length.Tie as tie
 
--- src/lib.rt:56:9
 returns : tie.Need-returns
 returns c = search (needs, lengths)
 
--- src/lib.rt:59:9
 returns-2 : tie.Need-returns-2
 returns-2 c = search (needs, lengths)
 
--- src/lib.rt:51:1
 returns-3 : tie.Need-returns-3
 returns-3 c = search (needs, lengths)
 

@@ -3,35 +3,27 @@ use borrow.Author.Needs.{needs}
 use Rattle.record.proofs.suffix.Statement.{statement}
 use Rattle.record.proofs.suffix.Tie as tie
 
--- src/lib.rt:137:43
 get8-requires : tie.Need-get8-requires
 get8-requires c κs = search needs
 
--- src/lib.rt:137:28
 decimal-length-requires : tie.Need-decimal-length-requires
 decimal-length-requires c κs = search needs
 
--- src/lib.rt:137:24
 add-result : tie.Need-add-result
 add-result c = search needs
 
--- src/lib.rt:137:17
 returns : tie.Need-returns
 returns c = search (needs, lengths)
 
--- src/lib.rt:141:15
 bare-requires : tie.Need-bare-requires
 bare-requires c κs = search needs
 
--- src/lib.rt:131:1
 returns-2 : tie.Need-returns-2
 returns-2 c = search (needs, lengths)
 
--- src/lib.rt:131:1
 returns-3 : tie.Need-returns-3
 returns-3 c = search (needs, lengths)
 
--- src/lib.rt:131:1
 returns-4 : tie.Need-returns-4
 returns-4 c = search (needs, lengths)
 

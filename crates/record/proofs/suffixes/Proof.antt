@@ -11,67 +11,51 @@ Inv-loop b text at₀ n₀ at n = SuffixesLeft b text at n
 abbrev μ-loop : tie.MeasureT-loop
 μ-loop b text at₀ n₀ at n = length b - at
 
--- src/lib.rt:153:5
 loop-holds : tie.Need-loop-holds Inv-loop μ-loop
 loop-holds c = search (needs, walking)
 
--- src/lib.rt:154:17
 sub-t : tie.Need-sub-t Inv-loop μ-loop
 sub-t c = search (needs, walking)
 
--- src/lib.rt:154:17
 part-t-start : tie.Need-part-t-start Inv-loop μ-loop
 part-t-start c = search (needs, walking)
 
--- src/lib.rt:154:17
 part-t-end : tie.Need-part-t-end Inv-loop μ-loop
 part-t-end c = search (needs, walking)
 
--- src/lib.rt:155:13
 record-length-requires : tie.Need-record-length-requires Inv-loop μ-loop
 record-length-requires c κs = search (needs, walking)
 
--- src/lib.rt:157:13
 returns : tie.Need-returns Inv-loop μ-loop
 returns c = search (needs, walking)
 
--- src/lib.rt:159:24
 get2-requires : tie.Need-get2-requires Inv-loop μ-loop
 get2-requires c κs = search (needs, walking)
 
--- src/lib.rt:159:44
 part-suffix-start : tie.Need-part-suffix-start Inv-loop μ-loop
 part-suffix-start c = search (needs, walking)
 
--- src/lib.rt:159:44
 part-suffix-end : tie.Need-part-suffix-end Inv-loop μ-loop
 part-suffix-end c = search (needs, walking)
 
--- src/lib.rt:159:13
 suffix-requires : tie.Need-suffix-requires Inv-loop μ-loop
 suffix-requires c κs = search (needs, walking)
 
--- src/lib.rt:161:13
 returns-2 : tie.Need-returns-2 Inv-loop μ-loop
 returns-2 c = search (needs, walking)
 
--- src/lib.rt:163:9
 add-n : tie.Need-add-n Inv-loop μ-loop
 add-n c = search (needs, walking)
 
--- src/lib.rt:164:9
 add-at : tie.Need-add-at Inv-loop μ-loop
 add-at c = search (needs, walking)
 
--- src/lib.rt:153:5
 loop-less : tie.Need-loop-less Inv-loop μ-loop
 loop-less c = search (needs, walking)
 
--- src/lib.rt:153:5
 loop-again : tie.Need-loop-again Inv-loop μ-loop
 loop-again c = search (needs, walking)
 
--- src/lib.rt:147:1
 returns-3 : tie.Need-returns-3 Inv-loop μ-loop
 returns-3 c = search (needs, walking)
 

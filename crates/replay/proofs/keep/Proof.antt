@@ -4,8 +4,6 @@ use lib.ListN.{length}
 use borrow.Author.Needs.{needs}
 use Rattle.replay.proofs.keep.Statement.{statement}
 use Rattle.replay.proofs.keep.Tie as tie
-use Rattle.replay.proofs.keep.Reads as reads
-use Rattle.replay.proofs.keep.Lts as lts
 
 abbrev Inv-loop : tie.InvT-loop
 Inv-loop window₀ from end n i₀ window i = (length window ≡ length window₀) × (i ≤ n)
@@ -13,43 +11,33 @@ Inv-loop window₀ from end n i₀ window i = (length window ≡ length window�
 abbrev μ-loop : tie.MeasureT-loop
 μ-loop window₀ from end n i₀ window i = n - i
 
--- src/main.rt:341:13
 sub-n : tie.Need-sub-n Inv-loop μ-loop
 sub-n c = search needs
 
--- src/main.rt:343:5
 loop-holds : tie.Need-loop-holds Inv-loop μ-loop
 loop-holds c = search needs
 
--- src/main.rt:344:28
 add-window : tie.Need-add-window Inv-loop μ-loop
 add-window c = search needs
 
--- src/main.rt:344:21
 slice-read-window : tie.Need-slice-read-window Inv-loop μ-loop
 slice-read-window c = search needs
 
--- src/main.rt:344:9
 slice-write-window : tie.Need-slice-write-window Inv-loop μ-loop
 slice-write-window c = search needs
 
--- src/main.rt:345:9
 add-i : tie.Need-add-i Inv-loop μ-loop
 add-i c = search needs
 
--- src/main.rt:343:5
 loop-less : tie.Need-loop-less Inv-loop μ-loop
 loop-less c = search needs
 
--- src/main.rt:343:5
 loop-again : tie.Need-loop-again Inv-loop μ-loop
 loop-again c = search needs
 
--- src/main.rt:337:1
 same-length : tie.Need-same-length Inv-loop μ-loop
 same-length c = search needs
 
--- src/main.rt:337:1
 returns : tie.Need-returns Inv-loop μ-loop
 returns c = search needs
 

@@ -4,10 +4,6 @@ use lib.ListN.{length}
 use borrow.Author.Needs.{needs}
 use Rattle.replay.proofs.replay_lines.Statement.{statement}
 use Rattle.replay.proofs.replay_lines.Tie as tie
-use Rattle.replay.proofs.replay_lines.Reads as reads
-use Rattle.replay.proofs.replay_lines.Lts as lts
-use Rattle.replay.proofs.find.Reads as find-reads
-use Rattle.replay.proofs.replay_row.Reads as replay-row-reads
 
 abbrev Inv-loop : tie.InvT-loop
 Inv-loop block text₀ out₀ counts₀ at₀ text out counts at = (length text ≡ length text₀) × (length out ≡ length out₀) × (at ≤ length block)
@@ -15,63 +11,48 @@ Inv-loop block text₀ out₀ counts₀ at₀ text out counts at = (length text 
 abbrev μ-loop : tie.MeasureT-loop
 μ-loop block text₀ out₀ counts₀ at₀ text out counts at = length block - at
 
--- src/main.rt:327:5
 loop-holds : tie.Need-loop-holds Inv-loop μ-loop
 loop-holds c = search needs
 
--- src/main.rt:328:13
 find-requires : tie.Need-find-requires Inv-loop μ-loop
 find-requires c κs = search needs
 
--- src/main.rt:330:13
 same-length : tie.Need-same-length Inv-loop μ-loop
 same-length c = search needs
 
--- src/main.rt:330:13
 same-length-2 : tie.Need-same-length-2 Inv-loop μ-loop
 same-length-2 c = search needs
 
--- src/main.rt:330:13
 returns : tie.Need-returns Inv-loop μ-loop
 returns c = search needs
 
--- src/main.rt:332:20
 sub-replay-row : tie.Need-sub-replay-row Inv-loop μ-loop
 sub-replay-row c = search needs
 
--- src/main.rt:332:20
 part-replay-row-start : tie.Need-part-replay-row-start Inv-loop μ-loop
 part-replay-row-start c = search needs
 
--- src/main.rt:332:20
 part-replay-row-end : tie.Need-part-replay-row-end Inv-loop μ-loop
 part-replay-row-end c = search needs
 
--- src/main.rt:332:9
 replay-row-requires : tie.Need-replay-row-requires Inv-loop μ-loop
 replay-row-requires c κs = search needs
 
--- src/main.rt:333:14
 add-at : tie.Need-add-at Inv-loop μ-loop
 add-at c = search needs
 
--- src/main.rt:327:5
 loop-less : tie.Need-loop-less Inv-loop μ-loop
 loop-less c = search needs
 
--- src/main.rt:327:5
 loop-again : tie.Need-loop-again Inv-loop μ-loop
 loop-again c = search needs
 
--- src/main.rt:323:1
 same-length-3 : tie.Need-same-length-3 Inv-loop μ-loop
 same-length-3 c = search needs
 
--- src/main.rt:323:1
 same-length-4 : tie.Need-same-length-4 Inv-loop μ-loop
 same-length-4 c = search needs
 
--- src/main.rt:323:1
 returns-2 : tie.Need-returns-2 Inv-loop μ-loop
 returns-2 c = search needs
 

@@ -3,84 +3,58 @@ use lib.Seq.{length-take-le}
 use borrow.Author.Needs.{needs}
 use Rattle.replay.proofs.replay_row.Statement.{statement}
 use Rattle.replay.proofs.replay_row.Tie as tie
-use Rattle.replay.proofs.replay_row.Reads as reads
-use Rattle.replay.proofs.replay_row.Lts as lts
-use Rattle.replay.proofs.call_of.Reads as call-of-reads
-use Rattle.replay.proofs.count_row.Reads as count-row-reads
-use Rattle.replay.proofs.decode.Reads as decode-reads
-use Rattle.replay.proofs.field.Reads as field-reads
-use Rattle.replay.proofs.is_hex.Reads as is-hex-reads
-use Rattle.replay.proofs.replay_text.Reads as replay-text-reads
 
--- src/main.rt:313:24
 field-requires : tie.Need-field-requires
 field-requires c κs = search needs
 
--- src/main.rt:313:9
 call-of-requires : tie.Need-call-of-requires
 call-of-requires c κs = search needs
 
--- src/main.rt:314:20
 field-requires-2 : tie.Need-field-requires-2
 field-requires-2 c κs = search needs
 
--- src/main.rt:314:9
 decode-requires : tie.Need-decode-requires
 decode-requires c κs = search needs
 
--- src/main.rt:315:15
 field-requires-3 : tie.Need-field-requires-3
 field-requires-3 c κs = search needs
 
--- src/main.rt:315:30
 slice-reshare-prefix-is-hex : tie.Need-slice-reshare-prefix-is-hex
 slice-reshare-prefix-is-hex c = search needs
 
--- src/main.rt:315:30
 slice-aggregate-is-hex : tie.Need-slice-aggregate-is-hex
 slice-aggregate-is-hex c = sym (length-take-le _ _ (search needs))
 
--- src/main.rt:315:8
 is-hex-requires : tie.Need-is-hex-requires
 is-hex-requires c κs = search needs
 
--- src/main.rt:316:51
 slice-reshare-prefix-replay-text : tie.Need-slice-reshare-prefix-replay-text
 slice-reshare-prefix-replay-text c = search needs
 
--- src/main.rt:316:51
 slice-aggregate-replay-text : tie.Need-slice-aggregate-replay-text
 slice-aggregate-replay-text c = sym (length-take-le _ _ (search needs))
 
--- src/main.rt:316:33
 replay-text-requires : tie.Need-replay-text-requires
 replay-text-requires c κs = search needs
 
--- src/main.rt:316:9
 count-row-requires : tie.Need-count-row-requires
 count-row-requires c κs = search needs
 
--- src/main.rt:318:9
 count-row-requires-2 : tie.Need-count-row-requires-2
 count-row-requires-2 c κs = search needs
 
--- src/main.rt:312:1
 same-length : tie.Need-same-length
 same-length c = search needs
 
--- src/main.rt:312:1
 same-length-2 : tie.Need-same-length-2
 same-length-2 c = search needs
 
--- src/main.rt:312:1
 returns : tie.Need-returns
 returns c = search needs
 
--- src/main.rt:312:1
 same-length-3 : tie.Need-same-length-3
 same-length-3 c = search needs
 
--- src/main.rt:312:1
 returns-2 : tie.Need-returns-2
 returns-2 c = search needs
 

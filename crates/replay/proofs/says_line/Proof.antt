@@ -3,53 +3,37 @@ use lib.Seq.{length-take-le}
 use borrow.Author.Needs.{needs}
 use Rattle.replay.proofs.says_line.Statement.{statement}
 use Rattle.replay.proofs.says_line.Tie as tie
-use Rattle.replay.proofs.says_line.Reads as reads
-use Rattle.replay.proofs.says_line.Lts as lts
-use Rattle.refusal.proofs.number.Reads as number-reads
-use Rattle.replay.proofs.is_hex.Reads as is-hex-reads
-use Rattle.text.proofs.equal.Reads as equal-reads
 
--- src/main.rt:274:28
 enum-known-answer : tie.Need-enum-known-answer
 enum-known-answer c = search needs
 
--- src/main.rt:276:17
 returns : tie.Need-returns
 returns c = search needs
 
--- src/main.rt:278:27
 slice-aggregate-is-hex : tie.Need-slice-aggregate-is-hex
 slice-aggregate-is-hex c = sym (length-take-le _ _ (search needs))
 
--- src/main.rt:278:13
 is-hex-requires : tie.Need-is-hex-requires
 is-hex-requires c κs = search needs
 
--- src/main.rt:281:13
 enum-known-answer-2 : tie.Need-enum-known-answer-2
 enum-known-answer-2 c = search needs
 
--- src/main.rt:283:14
 number-requires : tie.Need-number-requires
 number-requires c κs = search needs
 
--- src/main.rt:283:67
 slice-aggregate-equal : tie.Need-slice-aggregate-equal
 slice-aggregate-equal c = search needs
 
--- src/main.rt:283:48
 equal-requires : tie.Need-equal-requires
 equal-requires c κs = search needs
 
--- src/main.rt:272:1
 returns-2 : tie.Need-returns-2
 returns-2 c = search needs
 
--- src/main.rt:272:1
 returns-3 : tie.Need-returns-3
 returns-3 c = search needs
 
--- src/main.rt:272:1
 returns-4 : tie.Need-returns-4
 returns-4 c = search needs
 

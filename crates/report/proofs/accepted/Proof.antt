@@ -3,61 +3,43 @@ use Rattle.report.proofs.Whole.{declared-line, declared-put, constructo
 use borrow.Author.Needs.{needs}
 use Rattle.report.proofs.accepted.Statement.{statement}
 use Rattle.report.proofs.accepted.Tie as tie
-use Rattle.report.proofs.accepted.Reads as reads
-use Rattle.report.proofs.accepted.Lts as lts
-use Rattle.record.proofs.check.Reads as check-reads
-use Rattle.report.proofs.dashed.Reads as dashed-reads
-use Rattle.report.proofs.lined.Reads as lined-reads
 
--- src/lib.rt:98:9
 check-requires : tie.Need-check-requires
 check-requires c κs = search needs
 
--- src/lib.rt:101:13
 enum-known-c : tie.Need-enum-known-c
 enum-known-c c = search needs
 
--- src/lib.rt:105:14
 lined-requires : tie.Need-lined-requires
 lined-requires c κs = (declared-line _ _ (c .before .before .before .before .check .ensures) _ _ _ _ (c .before .before .c .given .1) .writes-it, omega (arith, declared-line _ _ (c .before .before .before .before .check .ensures) _ _ _ _ (c .before .before .c .given .1) .small, (c .before .before .before .before .before .before .before .pre .0), (c .before .before .before .before .before .before .before .pre .1)))
 
--- src/lib.rt:106:48
 enum-told : tie.Need-enum-told
 enum-told c = search needs
 
--- src/lib.rt:106:33
 dashed-requires : tie.Need-dashed-requires
 dashed-requires c κs = search needs
 
--- src/lib.rt:107:26
 enum-known-c-2 : tie.Need-enum-known-c-2
 enum-known-c-2 c = search needs
 
--- src/lib.rt:108:31
 enum-told-2 : tie.Need-enum-told-2
 enum-told-2 c = search needs
 
--- src/lib.rt:94:1
 same-length : tie.Need-same-length
 same-length c = search needs
 
--- src/lib.rt:94:1
 returns : tie.Need-returns
 returns c = declared-put _ _ (c .before .before .before .before .before .before .before .check .ensures) _ _ _ _ _ _ _ (c .before .before .before .before .before .c .given .1) (c .before .before .lined .ensures)
 
--- src/lib.rt:94:1
 same-length-2 : tie.Need-same-length-2
 same-length-2 c = search needs
 
--- src/lib.rt:94:1
 returns-2 : tie.Need-returns-2
 returns-2 c = constructor-put _ _ (c .before .before .before .before .before .before .check .ensures) _ _ _ (c .before .before .before .before .enum-told .given .1) (c .before .before .dashed .ensures)
 
--- src/lib.rt:94:1
 returns-3 : tie.Need-returns-3
 returns-3 c = field-put _ _ (c .before .before .before .check .ensures) _ _ _ (c .before .c2 .given .1)
 
--- src/lib.rt:94:1
 returns-4 : tie.Need-returns-4
 returns-4 c = ill-formed-put _ _ (c .before .before .check .ensures) _ (c .enum-told2 .given .1)
 

@@ -1,67 +1,47 @@
 use mathlib.Core.Path.{sym}
-use lib.ListN.{length, length-take}
 use lib.Seq.{length-take-le}
 use native.Mathlib.Omega.{arith}
 use Rattle.report.proofs.Whole.{read-accepted, line-accepted, line-refused}
 use borrow.Author.Needs.{needs}
 use Rattle.report.proofs.line.Statement.{statement}
 use Rattle.report.proofs.line.Tie as tie
-use Rattle.report.proofs.line.Reads as reads
-use Rattle.report.proofs.line.Lts as lts
-use Rattle.declaration.proofs.parse_declaration.Reads as parse-declaration-reads
-use Rattle.refusal.proofs.number.Reads as number-reads
-use Rattle.report.proofs.accepted.Reads as accepted-reads
-use Rattle.report.proofs.refused.Reads as refused-reads
 
--- src/lib.rt:131:55
 slice-aggregate-parse-declaration : tie.Need-slice-aggregate-parse-declaration
 slice-aggregate-parse-declaration c = search needs
 
--- src/lib.rt:131:9
 parse-declaration-requires : tie.Need-parse-declaration-requires
 parse-declaration-requires c κs = search needs
 
--- src/lib.rt:133:28
 enum-known-answer : tie.Need-enum-known-answer
 enum-known-answer c = search needs
 
--- src/lib.rt:133:49
 array-share-prefix-record : tie.Need-array-share-prefix-record
 array-share-prefix-record c = read-accepted _ _ _ _ (omega arith) (c .before .before .before .before .parse-declaration .ensures .0) (c .before .before .before .before .parse-declaration .ensures .1) _ (c .before .answer .given .1) .long
 
--- src/lib.rt:133:49
 slice-aggregate-accepted : tie.Need-slice-aggregate-accepted
 slice-aggregate-accepted c = sym (length-take-le _ _ (read-accepted _ _ _ _ (omega arith) (c .before .before .before .before .before .parse-declaration .ensures .0) (c .before .before .before .before .before .parse-declaration .ensures .1) _ (c .before .before .answer .given .1) .long))
 
--- src/lib.rt:133:40
 accepted-requires : tie.Need-accepted-requires
 accepted-requires c κs = (read-accepted _ _ _ _ (omega arith) (c .before .before .before .before .before .before .parse-declaration .ensures .0) (c .before .before .before .before .before .before .parse-declaration .ensures .1) _ (c .before .before .before .answer .given .1) .holds .short, c .before .before .before .before .before .before .before .before .before .before .pre)
 
--- src/lib.rt:134:27
 enum-known-answer-2 : tie.Need-enum-known-answer-2
 enum-known-answer-2 c = search needs
 
--- src/lib.rt:135:21
 number-requires : tie.Need-number-requires
 number-requires c κs = search needs
 
--- src/lib.rt:135:13
 refused-requires : tie.Need-refused-requires
 refused-requires c κs = search needs
 
--- src/lib.rt:124:1
 same-length : tie.Need-same-length
 same-length c = search needs
 
--- src/lib.rt:124:1
 returns : tie.Need-returns
 returns c = line-accepted _ _ _ _ (omega arith) (c .before .before .before .before .before .before .before .before .before .parse-declaration .ensures .0) (c .before .before .before .before .before .before .before .before .before .parse-declaration .ensures .1) _ _ _ _ (c .before .before .before .before .before .before .answer .given .1) (c .before .before .accepted .ensures)
 
--- src/lib.rt:124:1
 same-length-2 : tie.Need-same-length-2
 same-length-2 c = search needs
 
--- src/lib.rt:124:1
 returns-2 : tie.Need-returns-2
 returns-2 c = line-refused _ _ _ _ (omega arith) (c .before .before .before .before .before .before .before .before .before .parse-declaration .ensures .0) (c .before .before .before .before .before .before .before .before .before .parse-declaration .ensures .1) _ _ _ _ _ _ (c .before .before .before .before .before .before .answer2 .given .1) (c .before .before .before .before .number .ensures) (c .before .before .refused .ensures)
 

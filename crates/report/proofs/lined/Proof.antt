@@ -3,56 +3,40 @@ use Rattle.report.proofs.Whole.{front-end, lined-accepted, lined-refuse
 use borrow.Author.Needs.{needs}
 use Rattle.report.proofs.lined.Statement.{statement}
 use Rattle.report.proofs.lined.Tie as tie
-use Rattle.report.proofs.lined.Reads as reads
-use Rattle.report.proofs.lined.Lts as lts
-use Rattle.abi.proofs.canonical.Reads as canonical-reads
-use Rattle.report.proofs.front.Reads as front-reads
 
--- src/lib.rt:86:9
 front-requires : tie.Need-front-requires
 front-requires c κs = search needs
 
--- src/lib.rt:87:41
 sub-canonical : tie.Need-sub-canonical
 sub-canonical c = omega (arith, front-end _ (c .before .before .before .before .before .before .args .«record» .now) _ _ _ (omega arith) (c .before .before .front .ensures), c .before .before .before .before .before .before .pre .1)
 
--- src/lib.rt:87:41
 part-canonical-start : tie.Need-part-canonical-start
 part-canonical-start c = omega (arith, front-end _ (c .before .before .before .before .before .before .args .«record» .now) _ _ _ (omega arith) (c .before .before .front .ensures), c .before .before .before .before .before .before .pre .1)
 
--- src/lib.rt:87:41
 part-canonical-end : tie.Need-part-canonical-end
 part-canonical-end c = search needs
 
--- src/lib.rt:87:9
 canonical-requires : tie.Need-canonical-requires
 canonical-requires c κs = search needs
 
--- src/lib.rt:89:28
 enum-known-answer : tie.Need-enum-known-answer
 enum-known-answer c = search needs
 
--- src/lib.rt:89:40
 add-result : tie.Need-add-result
 add-result c = omega (arith, lined-inside _ _ _ _ _ (omega arith) (c .before .before .before .before .before .before .before .before .before .front .ensures) _ (c .before .before .before .before .before .before .before .before .before .before .before .before .before .pre .0) (c .before .before .before .before .before .before .before .before .before .before .before .before .before .pre .1) _ (c .before .before .before .before .before .canonical .ensures .0) _ (c .before .answer .given .1))
 
--- src/lib.rt:90:27
 enum-known-answer-2 : tie.Need-enum-known-answer-2
 enum-known-answer-2 c = search needs
 
--- src/lib.rt:81:1
 same-length : tie.Need-same-length
 same-length c = search needs
 
--- src/lib.rt:81:1
 returns : tie.Need-returns
 returns c = lined-accepted _ _ _ _ _ (omega arith) (c .before .before .before .before .before .before .before .before .before .front .ensures) _ (c .before .before .before .before .before .before .before .before .before .before .before .before .before .pre .0) (c .before .before .before .before .before .before .before .before .before .before .before .before .before .pre .1) _ (c .before .before .before .before .before .canonical .ensures .0) _ _ (c .before .answer .given .1) (c .before .before .before .before .before .canonical .ensures .1)
 
--- src/lib.rt:81:1
 same-length-2 : tie.Need-same-length-2
 same-length-2 c = search needs
 
--- src/lib.rt:81:1
 returns-2 : tie.Need-returns-2
 returns-2 c = lined-refused _ _ _ _ _ (omega arith) (c .before .before .before .before .before .before .before .before .before .front .ensures) _ (c .before .before .before .before .before .before .before .before .before .before .before .before .before .pre .0) (c .before .before .before .before .before .before .before .before .before .before .before .before .before .pre .1) _ (c .before .before .before .before .before .canonical .ensures .0) _ _ _ (c .before .answer2 .given .1)
 

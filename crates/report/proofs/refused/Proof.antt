@@ -3,40 +3,28 @@ use Rattle.report.proofs.Parts.{no-parts, short-number}
 use borrow.Author.Needs.{needs}
 use Rattle.report.proofs.refused.Statement.{statement}
 use Rattle.report.proofs.refused.Tie as tie
-use Rattle.report.proofs.refused.Reads as reads
-use Rattle.report.proofs.refused.Lts as lts
-use Rattle.report.proofs.write.Reads as write-reads
-use Rattle.report.proofs.write_decimal.Reads as write-decimal-reads
 
--- src/lib.rt:62:27
 slice-aggregate-write : tie.Need-slice-aggregate-write
 slice-aggregate-write c = search needs
 
--- src/lib.rt:62:9
 write-requires : tie.Need-write-requires
 write-requires c κs = search needs
 
--- src/lib.rt:63:9
 write-decimal-requires : tie.Need-write-decimal-requires
 write-decimal-requires c κs = omega (arith, c .before .before .before .write .ensures .end, short-number (c .before .before .before .before .before .before .before .args .number) (omega arith))
 
--- src/lib.rt:64:27
 slice-aggregate-write-2 : tie.Need-slice-aggregate-write-2
 slice-aggregate-write-2 c = search needs
 
--- src/lib.rt:64:9
 write-requires-2 : tie.Need-write-requires-2
 write-requires-2 c κs = omega (arith, c .before .before .before .before .before .before .before .before .write .ensures .end, c .before .before .before .before .write-decimal .ensures .end, short-number (c .before .before .before .before .before .before .before .before .before .before .before .before .args .number) (omega arith))
 
--- src/lib.rt:65:5
 write-decimal-requires-2 : tie.Need-write-decimal-requires-2
 write-decimal-requires-2 c κs = omega (arith, c .before .before .before .before .before .before .before .before .before .before .before .before .write .ensures .end, c .before .before .before .before .before .before .before .before .write-decimal .ensures .end, c .before .before .before .write2 .ensures .end, short-number (c .before .before .before .before .before .before .before .before .before .before .before .before .before .before .before .before .args .number) (omega arith), short-number (c .before .before .before .before .before .before .before .before .before .before .before .before .before .before .before .before .args .position) (omega arith))
 
--- src/lib.rt:58:1
 same-length : tie.Need-same-length
 same-length c = search needs
 
--- src/lib.rt:58:1
 returns : tie.Need-returns
 returns c = no-parts _ (c .before .before .before .before .before .before .before .before .before .before .before .before .before .before .before .before .before .before .before .pre) _ _ _ _ _ _ _ _ _ _ (omega arith) (omega arith) (c .before .before .before .before .before .before .before .before .before .before .before .before .before .before .before .write .ensures) (c .before .before .before .before .before .before .before .before .before .before .before .write-decimal .ensures) (c .before .before .before .before .before .before .write2 .ensures) (c .before .before .write-decimal2 .ensures)
 

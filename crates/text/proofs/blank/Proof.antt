@@ -3,48 +3,34 @@ use Rattle.text.proofs.Skipping.{skipping, blank-byte, blank-no-byte}
 use borrow.Author.Needs.{needs}
 use Rattle.text.proofs.blank.Statement.{statement}
 use Rattle.text.proofs.blank.Tie as tie
-use Rattle.text.proofs.blank.Reads as reads
-use Rattle.text.proofs.blank.Lts as lts
-use Rattle.text.proofs.char_of.Reads as char-of-reads
-use Rattle.text.proofs.is_blank.Reads as is-blank-reads
 
--- src/lib.rt:238:9
 returns : tie.Need-returns
 returns c = search (needs, skipping)
 
--- src/lib.rt:240:13
 shared-slice-read-a : tie.Need-shared-slice-read-a
 shared-slice-read-a c = search needs
 
--- src/lib.rt:242:21
 cast-is-blank : tie.Need-cast-is-blank
 cast-is-blank c = search needs
 
--- src/lib.rt:242:12
 is-blank-requires : tie.Need-is-blank-requires
 is-blank-requires c κs = search needs
 
--- src/lib.rt:243:13
 returns-2 : tie.Need-returns-2
 returns-2 c = (blank-byte _ (omega arith) (c .before .before .if2 .taken) _ (c .before .is-blank .ensures) (c .if3 .taken), omega arith)
 
--- src/lib.rt:245:9
 returns-3 : tie.Need-returns-3
 returns-3 c = (blank-no-byte _ (omega arith) (c .before .before .if2 .taken) _ (c .before .is-blank .ensures) (c .if3 .left), omega arith)
 
--- src/lib.rt:247:9
 char-of-requires : tie.Need-char-of-requires
 char-of-requires c κs = search needs
 
--- src/lib.rt:248:8
 is-blank-requires-2 : tie.Need-is-blank-requires-2
 is-blank-requires-2 c κs = search needs
 
--- src/lib.rt:234:1
 returns-4 : tie.Need-returns-4
 returns-4 c = search (needs, skipping)
 
--- src/lib.rt:234:1
 returns-5 : tie.Need-returns-5
 returns-5 c = search (needs, skipping)
 

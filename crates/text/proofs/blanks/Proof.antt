@@ -7,9 +7,6 @@ use Rattle.text.proofs.Skipping.{skipping}
 use Rattle.model.specs.Text.{span, blank}
 use Rattle.text.proofs.blanks.Statement.{statement}
 use Rattle.text.proofs.blanks.Tie as tie
-use Rattle.text.proofs.blanks.Reads as reads
-use Rattle.text.proofs.blanks.Lts as lts
-use Rattle.text.proofs.blank.Reads as blank-reads
 
 abbrev Inv-loop : tie.InvT-loop
 Inv-loop t i₀ i = (i ≤ length t) × (i + span blank (drop i t) ≡ span blank t)
@@ -17,43 +14,33 @@ Inv-loop t i₀ i = (i ≤ length t) × (i + span blank (drop i t) ≡ span blan
 abbrev μ-loop : tie.MeasureT-loop
 μ-loop t i₀ i = length t - i
 
--- src/lib.rt:243:5
 loop-holds : tie.Need-loop-holds Inv-loop μ-loop
 loop-holds c = search (needs, scanning, skipping)
 
--- src/lib.rt:244:23
 sub-blank : tie.Need-sub-blank Inv-loop μ-loop
 sub-blank c = search (needs, scanning, skipping)
 
--- src/lib.rt:244:23
 part-blank-start : tie.Need-part-blank-start Inv-loop μ-loop
 part-blank-start c = search (needs, scanning, skipping)
 
--- src/lib.rt:244:23
 part-blank-end : tie.Need-part-blank-end Inv-loop μ-loop
 part-blank-end c = search (needs, scanning, skipping)
 
--- src/lib.rt:244:13
 blank-requires : tie.Need-blank-requires Inv-loop μ-loop
 blank-requires c κs = search (needs, scanning, skipping)
 
--- src/lib.rt:246:13
 returns : tie.Need-returns Inv-loop μ-loop
 returns c = search (needs, scanning, skipping)
 
--- src/lib.rt:248:9
 add-i : tie.Need-add-i Inv-loop μ-loop
 add-i c = search (needs, scanning, skipping)
 
--- src/lib.rt:243:5
 loop-less : tie.Need-loop-less Inv-loop μ-loop
 loop-less c = search (needs, scanning, skipping)
 
--- src/lib.rt:243:5
 loop-again : tie.Need-loop-again Inv-loop μ-loop
 loop-again c = search (needs, scanning, skipping)
 
--- src/lib.rt:239:1
 returns-2 : tie.Need-returns-2 Inv-loop μ-loop
 returns-2 c = search (needs, scanning, skipping)
 

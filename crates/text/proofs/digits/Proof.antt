@@ -7,9 +7,6 @@ use Rattle.model.specs.Text.{span, one}
 use Rattle.model.proofs.Scans.{scanning}
 use Rattle.text.proofs.digits.Statement.{statement}
 use Rattle.text.proofs.digits.Tie as tie
-use Rattle.text.proofs.digits.Reads as reads
-use Rattle.text.proofs.digits.Lts as lts
-use Rattle.text.proofs.is_digit.Reads as is-digit-reads
 
 abbrev Inv-loop : tie.InvT-loop
 Inv-loop t i₀ i = (i ≤ length t) × (i + span (one isDigit) (drop i t) ≡ span (one isDigit) t)
@@ -17,35 +14,27 @@ Inv-loop t i₀ i = (i ≤ length t) × (i + span (one isDigit) (drop i t) ≡ s
 abbrev μ-loop : tie.MeasureT-loop
 μ-loop t i₀ i = length t - i
 
--- src/lib.rt:42:5
 loop-holds : tie.Need-loop-holds Inv-loop μ-loop
 loop-holds c = search (needs, scanning)
 
--- src/lib.rt:43:21
 shared-slice-read-is-digit : tie.Need-shared-slice-read-is-digit Inv-loop μ-loop
 shared-slice-read-is-digit c = search (needs, scanning)
 
--- src/lib.rt:43:12
 is-digit-requires : tie.Need-is-digit-requires Inv-loop μ-loop
 is-digit-requires c κs = search (needs, scanning)
 
--- src/lib.rt:44:13
 add-i : tie.Need-add-i Inv-loop μ-loop
 add-i c = search (needs, scanning)
 
--- src/lib.rt:42:5
 loop-less : tie.Need-loop-less Inv-loop μ-loop
 loop-less c = search (needs, scanning)
 
--- src/lib.rt:42:5
 loop-again : tie.Need-loop-again Inv-loop μ-loop
 loop-again c = search (needs, scanning)
 
--- src/lib.rt:46:13
 returns : tie.Need-returns Inv-loop μ-loop
 returns c = search (needs, scanning)
 
--- src/lib.rt:38:1
 returns-2 : tie.Need-returns-2 Inv-loop μ-loop
 returns-2 c = search (needs, scanning)
 

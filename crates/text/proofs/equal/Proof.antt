@@ -6,8 +6,6 @@ use Rattle.kinds.specs.Bytes.{same}
 use Rattle.text.proofs.Compare.{comparing}
 use Rattle.text.proofs.equal.Statement.{statement}
 use Rattle.text.proofs.equal.Tie as tie
-use Rattle.text.proofs.equal.Reads as reads
-use Rattle.text.proofs.equal.Lts as lts
 
 abbrev Inv-loop : tie.InvT-loop
 Inv-loop a b i₀ i = (i ≤ length a) × (length a ≡ length b) × (same (drop i a) (drop i b) ≡ same a b)
@@ -15,39 +13,30 @@ Inv-loop a b i₀ i = (i ≤ length a) × (length a ≡ length b) × (same (drop
 abbrev μ-loop : tie.MeasureT-loop
 μ-loop a b i₀ i = length a - i
 
--- src/lib.rt:82:9
 returns : tie.Need-returns Inv-loop μ-loop
 returns c = search (needs, comparing)
 
--- src/lib.rt:85:5
 loop-holds : tie.Need-loop-holds Inv-loop μ-loop
 loop-holds c = search (needs, comparing)
 
--- src/lib.rt:86:12
 shared-slice-read-if2 : tie.Need-shared-slice-read-if2 Inv-loop μ-loop
 shared-slice-read-if2 c = search (needs, comparing)
 
--- src/lib.rt:86:20
 shared-slice-read-if2-2 : tie.Need-shared-slice-read-if2-2 Inv-loop μ-loop
 shared-slice-read-if2-2 c = search (needs, comparing)
 
--- src/lib.rt:87:13
 returns-2 : tie.Need-returns-2 Inv-loop μ-loop
 returns-2 c = search (needs, comparing)
 
--- src/lib.rt:89:9
 add-i : tie.Need-add-i Inv-loop μ-loop
 add-i c = search (needs, comparing)
 
--- src/lib.rt:85:5
 loop-less : tie.Need-loop-less Inv-loop μ-loop
 loop-less c = search (needs, comparing)
 
--- src/lib.rt:85:5
 loop-again : tie.Need-loop-again Inv-loop μ-loop
 loop-again c = search (needs, comparing)
 
--- src/lib.rt:78:1
 returns-3 : tie.Need-returns-3 Inv-loop μ-loop
 returns-3 c = search (needs, comparing)
 

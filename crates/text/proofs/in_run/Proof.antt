@@ -2,51 +2,37 @@ use Rattle.text.proofs.Skipping.{skipping}
 use borrow.Author.Needs.{needs}
 use Rattle.text.proofs.in_run.Statement.{statement}
 use Rattle.text.proofs.in_run.Tie as tie
-use Rattle.text.proofs.in_run.Reads as reads
-use Rattle.text.proofs.in_run.Lts as lts
-use Rattle.text.proofs.blank.Reads as blank-reads
 
--- src/lib.rt:314:13
 shared-slice-read-c : tie.Need-shared-slice-read-c
 shared-slice-read-c c = search needs
 
--- src/lib.rt:316:9
 returns : tie.Need-returns
 returns c = search (needs, skipping)
 
--- src/lib.rt:319:9
 returns-2 : tie.Need-returns-2
 returns-2 c = search (needs, skipping)
 
--- src/lib.rt:322:9
 returns-3 : tie.Need-returns-3
 returns-3 c = search (needs, skipping)
 
--- src/lib.rt:325:9
 returns-4 : tie.Need-returns-4
 returns-4 c = search (needs, skipping)
 
--- src/lib.rt:328:9
 returns-5 : tie.Need-returns-5
 returns-5 c = search (needs, skipping)
 
--- src/lib.rt:330:11
 sub-blank : tie.Need-sub-blank
 sub-blank c = search needs
 
--- src/lib.rt:330:11
 part-blank-start : tie.Need-part-blank-start
 part-blank-start c = search needs
 
--- src/lib.rt:330:11
 part-blank-end : tie.Need-part-blank-end
 part-blank-end c = search needs
 
--- src/lib.rt:330:5
 blank-requires : tie.Need-blank-requires
 blank-requires c κs = search needs
 
--- src/lib.rt:310:1
 returns-6 : tie.Need-returns-6
 returns-6 c = search (needs, skipping)
 

@@ -2,24 +2,16 @@ use Rattle.text.proofs.Classes.{classes}
 use borrow.Author.Needs.{needs}
 use Rattle.text.proofs.is_alphabetic.Statement.{statement}
 use Rattle.text.proofs.is_alphabetic.Tie as tie
-use Rattle.text.proofs.is_alphabetic.Reads as reads
-use Rattle.text.proofs.is_alphabetic.Lts as lts
-use Rattle.text.proofs.is_lower.Reads as is-lower-reads
-use Rattle.text.proofs.is_upper.Reads as is-upper-reads
 
--- src/lib.rt:37:5
 is-lower-requires : tie.Need-is-lower-requires
 is-lower-requires c κs = search needs
 
--- src/lib.rt:37:20
 is-upper-requires : tie.Need-is-upper-requires
 is-upper-requires c κs = search needs
 
--- src/lib.rt:34:1
 returns : tie.Need-returns
 returns c = search (needs, classes)
 
--- src/lib.rt:34:1
 returns-2 : tie.Need-returns-2
 returns-2 c = search (needs, classes)
 

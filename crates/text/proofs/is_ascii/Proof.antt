@@ -8,8 +8,6 @@ use Rattle.kinds.specs.Bytes.{all, isAscii}
 use Rattle.text.proofs.Compare.{comparing, ascii-larger, ascii-smaller}
 use Rattle.text.proofs.is_ascii.Statement.{statement}
 use Rattle.text.proofs.is_ascii.Tie as tie
-use Rattle.text.proofs.is_ascii.Reads as reads
-use Rattle.text.proofs.is_ascii.Lts as lts
 
 abbrev Inv-loop : tie.InvT-loop
 Inv-loop s most₀ i₀ most i = (i ≤ length s) × (ltb most 128 ≡ all isAscii (take i s))
@@ -17,27 +15,21 @@ Inv-loop s most₀ i₀ most i = (i ≤ length s) × (ltb most 128 ≡ all isAsc
 abbrev μ-loop : tie.MeasureT-loop
 μ-loop s most₀ i₀ most i = length s - i
 
--- src/lib.rt:111:5
 loop-holds : tie.Need-loop-holds Inv-loop μ-loop
 loop-holds c = search (needs, comparing)
 
--- src/lib.rt:112:19
 shared-slice-read-if1 : tie.Need-shared-slice-read-if1 Inv-loop μ-loop
 shared-slice-read-if1 c = search (needs, comparing)
 
--- src/lib.rt:113:20
 shared-slice-read-most : tie.Need-shared-slice-read-most Inv-loop μ-loop
 shared-slice-read-most c = search (needs, comparing)
 
--- src/lib.rt:115:9
 add-i : tie.Need-add-i Inv-loop μ-loop
 add-i c = search (needs, comparing)
 
--- src/lib.rt:111:5
 loop-less : tie.Need-loop-less Inv-loop μ-loop
 loop-less c = search (needs, comparing)
 
--- src/lib.rt:111:5
 loop-again : tie.Need-loop-again Inv-loop μ-loop
 loop-again c =
     let l = c .before .before .before in
@@ -46,7 +38,6 @@ loop-again c =
     (λ w. (search needs, rw (w .1) (ascii-smaller s (l .loop .i) (l .loop .most) (search needs) (w .0 .left) (l .loop .inv .1))))
     (c .if1 .came)
 
--- src/lib.rt:106:1
 returns : tie.Need-returns Inv-loop μ-loop
 returns c = search (needs, comparing)
 

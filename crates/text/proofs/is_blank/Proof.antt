@@ -2,38 +2,28 @@ use borrow.Author.Needs.{needs}
 use Rattle.text.proofs.Characters.{characters, blank-first, blank-second, blank-third}
 use Rattle.text.proofs.is_blank.Statement.{statement}
 use Rattle.text.proofs.is_blank.Tie as tie
-use Rattle.text.proofs.is_blank.Reads as reads
-use Rattle.text.proofs.is_blank.Lts as lts
 
--- src/lib.rt:212:1
 returns : tie.Need-returns
 returns c = search (needs, characters)
 
--- src/lib.rt:212:1
 returns-2 : tie.Need-returns-2
 returns-2 c = search (needs, characters)
 
--- src/lib.rt:212:1
 returns-3 : tie.Need-returns-3
 returns-3 c = search (needs, characters)
 
--- src/lib.rt:212:1
 returns-4 : tie.Need-returns-4
 returns-4 c = search (needs, characters)
 
--- src/lib.rt:212:1
 returns-5 : tie.Need-returns-5
 returns-5 c = search (needs, characters)
 
--- src/lib.rt:212:1
 returns-6 : tie.Need-returns-6
 returns-6 c = blank-first _ (c .before .before .match .rest .1) (search needs) (search needs)
 
--- src/lib.rt:212:1
 returns-7 : tie.Need-returns-7
 returns-7 c = blank-second _ (c .before .before .before .before .match .rest .1) (search needs) (search needs) (search needs)
 
--- src/lib.rt:212:1
 returns-8 : tie.Need-returns-8
 returns-8 c = blank-third _ (c .before .before .before .before .before .before .match .rest .1) (search needs) (search needs)
 

@@ -2,14 +2,10 @@ use borrow.Author.Needs.{needs}
 use Rattle.text.proofs.Classes.{classes}
 use Rattle.text.proofs.is_digit.Statement.{statement}
 use Rattle.text.proofs.is_digit.Tie as tie
-use Rattle.text.proofs.is_digit.Reads as reads
-use Rattle.text.proofs.is_digit.Lts as lts
 
--- src/lib.rt:9:1
 returns : tie.Need-returns
 returns c = search (needs, classes)
 
--- src/lib.rt:9:1
 returns-2 : tie.Need-returns-2
 returns-2 c = search (needs, classes)
 

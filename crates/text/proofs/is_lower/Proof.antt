@@ -2,14 +2,10 @@ use Rattle.text.proofs.Classes.{classes}
 use borrow.Author.Needs.{needs}
 use Rattle.text.proofs.is_lower.Statement.{statement}
 use Rattle.text.proofs.is_lower.Tie as tie
-use Rattle.text.proofs.is_lower.Reads as reads
-use Rattle.text.proofs.is_lower.Lts as lts
 
--- src/lib.rt:21:1
 returns : tie.Need-returns
 returns c = search (needs, classes)
 
--- src/lib.rt:21:1
 returns-2 : tie.Need-returns-2
 returns-2 c = search (needs, classes)
 

@@ -3,15 +3,12 @@ use Rattle.text.proofs.Classes.{classes}
 use Rattle.text.proofs.is_stop.Statement.{statement}
 use Rattle.text.proofs.is_stop.Tie as tie
 
--- src/lib.rt:435:9
 returns : tie.Need-returns
 returns c = search (needs, classes)
 
--- src/lib.rt:438:9
 returns-2 : tie.Need-returns-2
 returns-2 c = search (needs, classes)
 
--- src/lib.rt:431:1
 returns-3 : tie.Need-returns-3
 returns-3 c = search (needs, classes)
 

@@ -5,11 +5,9 @@ use borrow.Author.Needs.{needs}
 use Rattle.text.proofs.lead.Statement.{statement}
 use Rattle.text.proofs.lead.Tie as tie
 
--- src/lib.rt:87:5
 cast-result : tie.Need-cast-result
 cast-result c = search (needs, trailing-le 64 (c .args .f))
 
--- src/lib.rt:84:1
 returns : tie.Need-returns
 returns c = (refl, omega (arith, trailing-le 64 (c .args .f)))
 

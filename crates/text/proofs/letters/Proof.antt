@@ -5,19 +5,15 @@ use borrow.Author.Needs.{needs}
 use Rattle.text.proofs.letters.Statement.{statement}
 use Rattle.text.proofs.letters.Tie as tie
 
--- src/lib.rt:95:17
 get8-requires : tie.Need-get8-requires
 get8-requires c κs = search needs
 
--- src/lib.rt:95:10
 others-requires : tie.Need-others-requires
 others-requires c κs = search needs
 
--- src/lib.rt:95:5
 lead-requires : tie.Need-lead-requires
 lead-requires c κs = search needs
 
--- src/lib.rt:91:1
 returns : tie.Need-returns
 returns c = (lead-span isAlphabetic _ _ _ _ _ (known-bytes _ (λ i. omega (arith, c .before .before .before .shared-slice-known .given i))) (c .before .before .before .before .pre) (c .before .before .get8 .ensures) (c .before .others .ensures) (c .lead .ensures .0), c .lead .ensures .1)
 

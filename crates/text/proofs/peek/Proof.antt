@@ -3,22 +3,16 @@ use Rattle.text.proofs.Skipping.{skipping}
 use borrow.Author.Needs.{needs}
 use Rattle.text.proofs.peek.Statement.{statement}
 use Rattle.text.proofs.peek.Tie as tie
-use Rattle.text.proofs.peek.Reads as reads
-use Rattle.text.proofs.peek.Lts as lts
 
--- src/lib.rt:286:23
 shared-slice-read-result : tie.Need-shared-slice-read-result
 shared-slice-read-result c = search needs
 
--- src/lib.rt:286:23
 cast-result : tie.Need-cast-result
 cast-result c = omega (arith, c .shared-slice-known .given (c .before .before .args .at))
 
--- src/lib.rt:283:1
 returns : tie.Need-returns
 returns c = search (needs, skipping)
 
--- src/lib.rt:283:1
 returns-2 : tie.Need-returns-2
 returns-2 c = search (needs, skipping)
 

@@ -5,10 +5,6 @@ use lib.ListN.{length}
 use Rattle.text.proofs.Numbers.{numbers, Digits}
 use Rattle.text.proofs.plain.Statement.{statement}
 use Rattle.text.proofs.plain.Tie as tie
-use Rattle.text.proofs.plain.Reads as reads
-use Rattle.text.proofs.plain.Lts as lts
-use Rattle.text.proofs.digit.Reads as digit-reads
-use Rattle.text.proofs.push.Reads as push-reads
 
 abbrev Inv-loop : tie.InvT-loop
 Inv-loop limit t n₀ i₀ n i = (length t ≡ 0 → ⊥) × Digits limit t n i
@@ -16,43 +12,33 @@ Inv-loop limit t n₀ i₀ n i = (length t ≡ 0 → ⊥) × Digits limit t n i
 abbrev μ-loop : tie.MeasureT-loop
 μ-loop limit t n₀ i₀ n i = length t - i
 
--- src/lib.rt:390:9
 returns : tie.Need-returns Inv-loop μ-loop
 returns c = search (needs, numbers)
 
--- src/lib.rt:394:5
 loop-holds : tie.Need-loop-holds Inv-loop μ-loop
 loop-holds c = search (needs, numbers)
 
--- src/lib.rt:395:23
 shared-slice-read-digit : tie.Need-shared-slice-read-digit Inv-loop μ-loop
 shared-slice-read-digit c = search (needs, numbers)
 
--- src/lib.rt:395:13
 digit-requires : tie.Need-digit-requires Inv-loop μ-loop
 digit-requires c κs = search (needs, numbers)
 
--- src/lib.rt:397:13
 returns-2 : tie.Need-returns-2 Inv-loop μ-loop
 returns-2 c = search (needs, numbers)
 
--- src/lib.rt:399:9
 push-requires : tie.Need-push-requires Inv-loop μ-loop
 push-requires c κs = search (needs, numbers)
 
--- src/lib.rt:400:9
 add-i : tie.Need-add-i Inv-loop μ-loop
 add-i c = search (needs, numbers)
 
--- src/lib.rt:394:5
 loop-less : tie.Need-loop-less Inv-loop μ-loop
 loop-less c = search (needs, numbers)
 
--- src/lib.rt:394:5
 loop-again : tie.Need-loop-again Inv-loop μ-loop
 loop-again c = search (needs, numbers)
 
--- src/lib.rt:386:1
 returns-3 : tie.Need-returns-3 Inv-loop μ-loop
 returns-3 c = search (needs, numbers)
 

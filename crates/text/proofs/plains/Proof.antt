@@ -5,19 +5,15 @@ use borrow.Author.Needs.{needs}
 use Rattle.text.proofs.plains.Statement.{statement}
 use Rattle.text.proofs.plains.Tie as tie
 
--- src/lib.rt:443:16
 get8-requires : tie.Need-get8-requires
 get8-requires c κs = search needs
 
--- src/lib.rt:443:10
 stops-requires : tie.Need-stops-requires
 stops-requires c κs = search needs
 
--- src/lib.rt:443:5
 lead-requires : tie.Need-lead-requires
 lead-requires c κs = search needs
 
--- src/lib.rt:439:1
 returns : tie.Need-returns
 returns c = (lead-span isPlain _ _ _ _ _ (known-bytes _ (λ i. omega (arith, c .before .before .before .shared-slice-known .given i))) (c .before .before .before .before .pre) (c .before .before .get8 .ensures) (c .before .stops .ensures) (c .lead .ensures .0), c .lead .ensures .1)
 

@@ -3,35 +3,27 @@ use borrow.Author.Needs.{needs}
 use Rattle.text.proofs.run.Statement.{statement}
 use Rattle.text.proofs.run.Tie as tie
 
--- src/lib.rt:464:13
 plains-requires : tie.Need-plains-requires
 plains-requires c κs = search needs
 
--- src/lib.rt:466:24
 shared-slice-read-is-stop : tie.Need-shared-slice-read-is-stop
 shared-slice-read-is-stop c = search needs
 
--- src/lib.rt:466:16
 is-stop-requires : tie.Need-is-stop-requires
 is-stop-requires c κs = search needs
 
--- src/lib.rt:467:17
 returns : tie.Need-returns
 returns c = (runs-stopped _ _ (c .before .before .before .before .plains .ensures .0) (c .before .before .before .before .plains .ensures .1) (c .before .before .before .before .before .if1 .taken) _ (search needs) (c .before .is-stop .ensures) (c .if3 .taken), search needs)
 
--- src/lib.rt:470:9
 run-from-requires : tie.Need-run-from-requires
 run-from-requires c κs = search (needs, runs)
 
--- src/lib.rt:470:9
 returns-2 : tie.Need-returns-2
 returns-2 c = search needs
 
--- src/lib.rt:472:5
 run-from-requires-2 : tie.Need-run-from-requires-2
 run-from-requires-2 c κs = search (needs, runs)
 
--- src/lib.rt:460:1
 returns-3 : tie.Need-returns-3
 returns-3 c = search needs
 

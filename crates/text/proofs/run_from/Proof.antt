@@ -14,31 +14,24 @@ Inv-loop t c i₀ i = (i ≤ length t) × (i + span runByte (drop i t) ≡ runLe
 abbrev μ-loop : tie.MeasureT-loop
 μ-loop t c i₀ i = length t - i
 
--- src/lib.rt:412:5
 loop-holds : tie.Need-loop-holds Inv-loop μ-loop
 loop-holds c = search (needs, scanning, skipping)
 
--- src/lib.rt:413:12
 in-run-requires : tie.Need-in-run-requires Inv-loop μ-loop
 in-run-requires c κs = search (needs, scanning, skipping)
 
--- src/lib.rt:414:13
 add-i : tie.Need-add-i Inv-loop μ-loop
 add-i c = search (needs, scanning, skipping)
 
--- src/lib.rt:412:5
 loop-less : tie.Need-loop-less Inv-loop μ-loop
 loop-less c = search (needs, scanning, skipping)
 
--- src/lib.rt:412:5
 loop-again : tie.Need-loop-again Inv-loop μ-loop
 loop-again c = search (needs, scanning, skipping)
 
--- src/lib.rt:416:13
 returns : tie.Need-returns Inv-loop μ-loop
 returns c = search (needs, scanning, skipping)
 
--- src/lib.rt:407:1
 returns-2 : tie.Need-returns-2 Inv-loop μ-loop
 returns-2 c = search (needs, scanning, skipping)
 

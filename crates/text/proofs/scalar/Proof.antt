@@ -2,26 +2,19 @@ use borrow.Author.Needs.{needs}
 use Rattle.text.proofs.Characters.{characters}
 use Rattle.text.proofs.scalar.Statement.{statement}
 use Rattle.text.proofs.scalar.Tie as tie
-use Rattle.text.proofs.scalar.Reads as reads
-use Rattle.text.proofs.scalar.Lts as lts
 
--- src/lib.rt:162:9
 returns : tie.Need-returns
 returns c = search (needs, characters)
 
--- src/lib.rt:165:9
 returns-2 : tie.Need-returns-2
 returns-2 c = search (needs, characters)
 
--- src/lib.rt:168:9
 returns-3 : tie.Need-returns-3
 returns-3 c = search (needs, characters)
 
--- src/lib.rt:171:9
 returns-4 : tie.Need-returns-4
 returns-4 c = search (needs, characters)
 
--- src/lib.rt:157:1
 returns-5 : tie.Need-returns-5
 returns-5 c = search (needs, characters)
 

@@ -2,59 +2,43 @@ use Rattle.text.proofs.Skipping.{skipping}
 use borrow.Author.Needs.{needs}
 use Rattle.text.proofs.skip.Statement.{statement}
 use Rattle.text.proofs.skip.Tie as tie
-use Rattle.text.proofs.skip.Reads as reads
-use Rattle.text.proofs.skip.Lts as lts
-use Rattle.text.proofs.skip_slowly.Reads as skip-slowly-reads
 
--- src/lib.rt:280:17
 shared-slice-read-c : tie.Need-shared-slice-read-c
 shared-slice-read-c c = search needs
 
--- src/lib.rt:282:13
 returns : tie.Need-returns
 returns c = search (needs, skipping)
 
--- src/lib.rt:284:23
 add-if5 : tie.Need-add-if5
 add-if5 c = search needs
 
--- src/lib.rt:285:23
 add-d : tie.Need-add-d
 add-d c = search needs
 
--- src/lib.rt:285:21
 shared-slice-read-d : tie.Need-shared-slice-read-d
 shared-slice-read-d c = search needs
 
--- src/lib.rt:287:24
 add-result : tie.Need-add-result
 add-result c = search needs
 
--- src/lib.rt:287:17
 returns-2 : tie.Need-returns-2
 returns-2 c = search (needs, skipping)
 
--- src/lib.rt:289:35
 add-skip-slowly : tie.Need-add-skip-slowly
 add-skip-slowly c = search needs
 
--- src/lib.rt:289:13
 skip-slowly-requires : tie.Need-skip-slowly-requires
 skip-slowly-requires c κs = search needs
 
--- src/lib.rt:289:13
 returns-3 : tie.Need-returns-3
 returns-3 c = search (needs, skipping)
 
--- src/lib.rt:291:9
 skip-slowly-requires-2 : tie.Need-skip-slowly-requires-2
 skip-slowly-requires-2 c κs = search needs
 
--- src/lib.rt:291:9
 returns-4 : tie.Need-returns-4
 returns-4 c = search needs
 
--- src/lib.rt:275:1
 returns-5 : tie.Need-returns-5
 returns-5 c = search (needs, skipping)
 

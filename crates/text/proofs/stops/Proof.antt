@@ -4,11 +4,9 @@ use Rattle.text.proofs.Eights.{eights, stops-room}
 use Rattle.text.proofs.stops.Statement.{statement}
 use Rattle.text.proofs.stops.Tie as tie
 
--- src/lib.rt:427:11
 sub-result : tie.Need-sub-result
 sub-result c = omega (arith, stops-room _ (c .fits .v .fits))
 
--- src/lib.rt:423:1
 returns : tie.Need-returns
 returns c = search (needs, eights)
 

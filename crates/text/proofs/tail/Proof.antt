@@ -2,22 +2,16 @@ use Rattle.text.proofs.Characters.{characters}
 use borrow.Author.Needs.{needs}
 use Rattle.text.proofs.tail.Statement.{statement}
 use Rattle.text.proofs.tail.Tie as tie
-use Rattle.text.proofs.tail.Reads as reads
-use Rattle.text.proofs.tail.Lts as lts
 
--- src/lib.rt:127:9
 returns : tie.Need-returns
 returns c = search (needs, characters)
 
--- src/lib.rt:130:9
 returns-2 : tie.Need-returns-2
 returns-2 c = search (needs, characters)
 
--- src/lib.rt:132:5
 cast-result : tie.Need-cast-result
 cast-result c = search needs
 
--- src/lib.rt:123:1
 returns-3 : tie.Need-returns-3
 returns-3 c = search (needs, characters)
 

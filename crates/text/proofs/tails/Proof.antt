@@ -4,9 +4,6 @@ use Prim.Native.Nat.{_-_}
 use Rattle.text.proofs.Characters.{characters, Tails, tails-small}
 use Rattle.text.proofs.tails.Statement.{statement}
 use Rattle.text.proofs.tails.Tie as tie
-use Rattle.text.proofs.tails.Reads as reads
-use Rattle.text.proofs.tails.Lts as lts
-use Rattle.text.proofs.tail.Reads as tail-reads
 
 abbrev Inv-loop : tie.InvT-loop
 Inv-loop k v t code₀ i₀ code i = Tails k v t code i
@@ -14,47 +11,36 @@ Inv-loop k v t code₀ i₀ code i = Tails k v t code i
 abbrev μ-loop : tie.MeasureT-loop
 μ-loop k v t code₀ i₀ code i = k - i
 
--- src/lib.rt:142:5
 loop-holds : tie.Need-loop-holds Inv-loop μ-loop
 loop-holds c = search (needs, characters)
 
--- src/lib.rt:144:13
 returns : tie.Need-returns Inv-loop μ-loop
 returns c = search (needs, characters)
 
--- src/lib.rt:146:22
 shared-slice-read-tail : tie.Need-shared-slice-read-tail Inv-loop μ-loop
 shared-slice-read-tail c = search (needs, characters)
 
--- src/lib.rt:146:13
 tail-requires : tie.Need-tail-requires Inv-loop μ-loop
 tail-requires c κs = search (needs, characters)
 
--- src/lib.rt:148:13
 returns-2 : tie.Need-returns-2 Inv-loop μ-loop
 returns-2 c = search (needs, characters)
 
--- src/lib.rt:150:16
 mul-code : tie.Need-mul-code Inv-loop μ-loop
 mul-code c = omega (arith, tails-small _ _ _ _ _ (c .before .before .before .before .before .loop .inv) (c .before .before .before .before .loop-test .taken) (c .before .before .before .before .before .before .before .pre .0))
 
--- src/lib.rt:150:16
 add-code : tie.Need-add-code Inv-loop μ-loop
 add-code c = omega (arith, tails-small _ _ _ _ _ (c .before .before .before .before .before .loop .inv) (c .before .before .before .before .loop-test .taken) (c .before .before .before .before .before .before .before .pre .0))
 
--- src/lib.rt:151:9
 add-i : tie.Need-add-i Inv-loop μ-loop
 add-i c = search (needs, characters)
 
--- src/lib.rt:142:5
 loop-less : tie.Need-loop-less Inv-loop μ-loop
 loop-less c = search (needs, characters)
 
--- src/lib.rt:142:5
 loop-again : tie.Need-loop-again Inv-loop μ-loop
 loop-again c = search (needs, characters)
 
--- src/lib.rt:136:1
 returns-3 : tie.Need-returns-3 Inv-loop μ-loop
 returns-3 c = search (needs, characters)
 

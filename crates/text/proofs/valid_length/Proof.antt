@@ -7,10 +7,6 @@ use Rattle.text.proofs.Skipping.{skipping}
 use Rattle.model.specs.Text.{span, character, validLength}
 use Rattle.text.proofs.valid_length.Statement.{statement}
 use Rattle.text.proofs.valid_length.Tie as tie
-use Rattle.text.proofs.valid_length.Reads as reads
-use Rattle.text.proofs.valid_length.Lts as lts
-use Rattle.text.proofs.char_of.Reads as char-of-reads
-use Rattle.text.proofs.is_ascii.Reads as is-ascii-reads
 
 abbrev Inv-loop : tie.InvT-loop
 Inv-loop s i₀ i = (i ≤ length s) × (i + span character (drop i s) ≡ validLength s)
@@ -18,51 +14,39 @@ Inv-loop s i₀ i = (i ≤ length s) × (i + span character (drop i s) ≡ valid
 abbrev μ-loop : tie.MeasureT-loop
 μ-loop s i₀ i = length s - i
 
--- src/lib.rt:293:8
 is-ascii-requires : tie.Need-is-ascii-requires Inv-loop μ-loop
 is-ascii-requires c κs = search (needs, scanning, skipping)
 
--- src/lib.rt:294:9
 returns : tie.Need-returns Inv-loop μ-loop
 returns c = search (needs, scanning, skipping)
 
--- src/lib.rt:297:5
 loop-holds : tie.Need-loop-holds Inv-loop μ-loop
 loop-holds c = search (needs, scanning, skipping)
 
--- src/lib.rt:298:25
 sub-char-of : tie.Need-sub-char-of Inv-loop μ-loop
 sub-char-of c = search (needs, scanning, skipping)
 
--- src/lib.rt:298:25
 part-char-of-start : tie.Need-part-char-of-start Inv-loop μ-loop
 part-char-of-start c = search (needs, scanning, skipping)
 
--- src/lib.rt:298:25
 part-char-of-end : tie.Need-part-char-of-end Inv-loop μ-loop
 part-char-of-end c = search (needs, scanning, skipping)
 
--- src/lib.rt:298:13
 char-of-requires : tie.Need-char-of-requires Inv-loop μ-loop
 char-of-requires c κs = search (needs, scanning, skipping)
 
--- src/lib.rt:301:13
 returns-2 : tie.Need-returns-2 Inv-loop μ-loop
 returns-2 c = search (needs, scanning, skipping)
 
--- src/lib.rt:303:9
 add-i : tie.Need-add-i Inv-loop μ-loop
 add-i c = search (needs, scanning, skipping)
 
--- src/lib.rt:297:5
 loop-less : tie.Need-loop-less Inv-loop μ-loop
 loop-less c = search (needs, scanning, skipping)
 
--- src/lib.rt:297:5
 loop-again : tie.Need-loop-again Inv-loop μ-loop
 loop-again c = search (needs, scanning, skipping)
 
--- src/lib.rt:290:1
 returns-3 : tie.Need-returns-3 Inv-loop μ-loop
 returns-3 c = search (needs, scanning, skipping)
 

@@ -4,165 +4,118 @@ use Rattle.value.proofs.Words.{words, starts-long, is-unknown}
 use borrow.Author.Needs.{needs}
 use Rattle.value.proofs.elementary.Statement.{statement}
 use Rattle.value.proofs.elementary.Tie as tie
-use Rattle.value.proofs.elementary.Reads as reads
-use Rattle.value.proofs.elementary.Lts as lts
-use Rattle.text.proofs.begins.Reads as begins-reads
-use Rattle.text.proofs.equal.Reads as equal-reads
-use Rattle.value.proofs.fixed_bytes.Reads as fixed-bytes-reads
-use Rattle.value.proofs.int.Reads as int-reads
-use Rattle.value.proofs.length_behind.Reads as length-behind-reads
-use Rattle.value.proofs.uint.Reads as uint-reads
-use Rattle.value.proofs.width_behind.Reads as width-behind-reads
 
--- src/lib.rt:145:21
 slice-aggregate-begins : tie.Need-slice-aggregate-begins
 slice-aggregate-begins c = search needs
 
--- src/lib.rt:145:8
 begins-requires : tie.Need-begins-requires
 begins-requires c κs = search needs
 
--- src/lib.rt:146:34
 sub-width-behind : tie.Need-sub-width-behind
 sub-width-behind c = omega (arith, starts-long (ascii "uint") (c .before .before .before .before .args .t .now) _ (c .before .begins .ensures) (c .if1 .taken))
 
--- src/lib.rt:146:34
 part-width-behind-start : tie.Need-part-width-behind-start
 part-width-behind-start c = omega (arith, starts-long (ascii "uint") (c .before .before .before .before .args .t .now) _ (c .before .begins .ensures) (c .if1 .taken))
 
--- src/lib.rt:146:34
 part-width-behind-end : tie.Need-part-width-behind-end
 part-width-behind-end c = search needs
 
--- src/lib.rt:146:21
 width-behind-requires : tie.Need-width-behind-requires
 width-behind-requires c κs = search needs
 
--- src/lib.rt:146:9
 uint-requires : tie.Need-uint-requires
 uint-requires c κs = search needs
 
--- src/lib.rt:146:9
 returns : tie.Need-returns
 returns c = search (needs, words)
 
--- src/lib.rt:148:20
 slice-aggregate-equal : tie.Need-slice-aggregate-equal
 slice-aggregate-equal c = search needs
 
--- src/lib.rt:148:8
 equal-requires : tie.Need-equal-requires
 equal-requires c κs = search needs
 
--- src/lib.rt:149:9
 returns-2 : tie.Need-returns-2
 returns-2 c = search (needs, words)
 
--- src/lib.rt:151:21
 slice-aggregate-begins-2 : tie.Need-slice-aggregate-begins-2
 slice-aggregate-begins-2 c = search needs
 
--- src/lib.rt:151:8
 begins-requires-2 : tie.Need-begins-requires-2
 begins-requires-2 c κs = search needs
 
--- src/lib.rt:153:13
 returns-3 : tie.Need-returns-3
 returns-3 c = search (needs, words)
 
--- src/lib.rt:155:42
 sub-length-behind : tie.Need-sub-length-behind
 sub-length-behind c = omega (arith, starts-long (ascii "bytes") (c .before .before .before .before .before .before .before .before .before .before .before .args .t .now) _ (c .before .before .begins2 .ensures) (c .before .if3 .taken))
 
--- src/lib.rt:155:42
 part-length-behind-start : tie.Need-part-length-behind-start
 part-length-behind-start c = omega (arith, starts-long (ascii "bytes") (c .before .before .before .before .before .before .before .before .before .before .before .args .t .now) _ (c .before .before .begins2 .ensures) (c .before .if3 .taken))
 
--- src/lib.rt:155:42
 part-length-behind-end : tie.Need-part-length-behind-end
 part-length-behind-end c = search needs
 
--- src/lib.rt:155:28
 length-behind-requires : tie.Need-length-behind-requires
 length-behind-requires c κs = search needs
 
--- src/lib.rt:155:9
 fixed-bytes-requires : tie.Need-fixed-bytes-requires
 fixed-bytes-requires c κs = search needs
 
--- src/lib.rt:155:9
 returns-4 : tie.Need-returns-4
 returns-4 c = search (needs, words)
 
--- src/lib.rt:157:20
 slice-aggregate-equal-2 : tie.Need-slice-aggregate-equal-2
 slice-aggregate-equal-2 c = search needs
 
--- src/lib.rt:157:8
 equal-requires-2 : tie.Need-equal-requires-2
 equal-requires-2 c κs = search needs
 
--- src/lib.rt:158:9
 returns-5 : tie.Need-returns-5
 returns-5 c = search (needs, words)
 
--- src/lib.rt:160:20
 slice-aggregate-equal-3 : tie.Need-slice-aggregate-equal-3
 slice-aggregate-equal-3 c = search needs
 
--- src/lib.rt:160:8
 equal-requires-3 : tie.Need-equal-requires-3
 equal-requires-3 c κs = search needs
 
--- src/lib.rt:161:9
 returns-6 : tie.Need-returns-6
 returns-6 c = search (needs, words)
 
--- src/lib.rt:163:21
 slice-aggregate-begins-3 : tie.Need-slice-aggregate-begins-3
 slice-aggregate-begins-3 c = search needs
 
--- src/lib.rt:163:8
 begins-requires-3 : tie.Need-begins-requires-3
 begins-requires-3 c κs = search needs
 
--- src/lib.rt:164:33
 sub-width-behind-2 : tie.Need-sub-width-behind-2
 sub-width-behind-2 c = omega (arith, starts-long (ascii "int") (c .before .before .before .before .before .before .before .before .before .before .before .before .before .before .before .before .before .before .before .args .t .now) _ (c .before .begins3 .ensures) (c .if7 .taken))
 
--- src/lib.rt:164:33
 part-width-behind-start-2 : tie.Need-part-width-behind-start-2
 part-width-behind-start-2 c = omega (arith, starts-long (ascii "int") (c .before .before .before .before .before .before .before .before .before .before .before .before .before .before .before .before .before .before .before .args .t .now) _ (c .before .begins3 .ensures) (c .if7 .taken))
 
--- src/lib.rt:164:33
 part-width-behind-end-2 : tie.Need-part-width-behind-end-2
 part-width-behind-end-2 c = search needs
 
--- src/lib.rt:164:20
 width-behind-requires-2 : tie.Need-width-behind-requires-2
 width-behind-requires-2 c κs = search needs
 
--- src/lib.rt:164:9
 int-requires : tie.Need-int-requires
 int-requires c κs = search needs
 
--- src/lib.rt:164:9
 returns-7 : tie.Need-returns-7
 returns-7 c = search (needs, words)
 
--- src/lib.rt:166:20
 slice-aggregate-equal-4 : tie.Need-slice-aggregate-equal-4
 slice-aggregate-equal-4 c = search needs
 
--- src/lib.rt:166:8
 equal-requires-4 : tie.Need-equal-requires-4
 equal-requires-4 c κs = search needs
 
--- src/lib.rt:167:9
 returns-8 : tie.Need-returns-8
 returns-8 c = search (needs, words)
 
--- src/lib.rt:142:1
 returns-9 : tie.Need-returns-9
 returns-9 c = is-unknown _ _ _ _ _ _ _ _ (c .before .before .before .before .before .before .before .before .before .before .before .before .before .before .before .before .before .before .before .begins .ensures) (c .before .before .before .before .before .before .before .before .before .before .before .before .before .before .before .before .before .before .if1 .left) (c .before .before .before .before .before .before .before .before .before .before .before .before .before .before .before .before .equal .ensures) (c .before .before .before .before .before .before .before .before .before .before .before .before .before .before .before .if2 .left) (c .before .before .before .before .before .before .before .before .before .before .before .before .before .begins2 .ensures) (c .before .before .before .before .before .before .before .before .before .before .before .before .if3 .left) (c .before .before .before .before .before .before .before .before .before .before .equal2 .ensures) (c .before .before .before .before .before .before .before .before .before .if5 .left) (c .before .before .before .before .before .before .before .equal3 .ensures) (c .before .before .before .before .before .before .if6 .left) (c .before .before .before .before .begins3 .ensures) (c .before .before .before .if7 .left) (c .before .equal4 .ensures) (c .if8 .left)
 

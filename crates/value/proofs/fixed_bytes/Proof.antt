@@ -2,22 +2,16 @@ use Rattle.value.proofs.Widths.{widths}
 use borrow.Author.Needs.{needs}
 use Rattle.value.proofs.fixed_bytes.Statement.{statement}
 use Rattle.value.proofs.fixed_bytes.Tie as tie
-use Rattle.value.proofs.fixed_bytes.Reads as reads
-use Rattle.value.proofs.fixed_bytes.Lts as lts
 
--- src/lib.rt:136:30
 enum-known-n : tie.Need-enum-known-n
 enum-known-n c = search needs
 
--- src/lib.rt:137:52
 enum-told : tie.Need-enum-told
 enum-told c = search needs
 
--- src/lib.rt:132:1
 returns : tie.Need-returns
 returns c = search (needs, widths)
 
--- src/lib.rt:132:1
 returns-2 : tie.Need-returns-2
 returns-2 c = search (needs, widths)
 

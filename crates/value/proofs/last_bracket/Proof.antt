@@ -7,8 +7,6 @@ use Rattle.model.specs.KindText.{cutLast, uncut}
 use Rattle.value.proofs.Peels.{peels}
 use Rattle.value.proofs.last_bracket.Statement.{statement}
 use Rattle.value.proofs.last_bracket.Tie as tie
-use Rattle.value.proofs.last_bracket.Reads as reads
-use Rattle.value.proofs.last_bracket.Lts as lts
 
 abbrev Inv-loop : tie.InvT-loop
 Inv-loop t i₀ i = (i ≤ length t) × (cutLast lbracket (drop i t) ≡ uncut)
@@ -16,31 +14,24 @@ Inv-loop t i₀ i = (i ≤ length t) × (cutLast lbracket (drop i t) ≡ uncut)
 abbrev μ-loop : tie.MeasureT-loop
 μ-loop t i₀ i = i
 
--- src/lib.rt:188:5
 loop-holds : tie.Need-loop-holds Inv-loop μ-loop
 loop-holds c = search (needs, peels)
 
--- src/lib.rt:192:9
 sub-i : tie.Need-sub-i Inv-loop μ-loop
 sub-i c = search (needs, peels)
 
--- src/lib.rt:193:12
 shared-slice-read-if2 : tie.Need-shared-slice-read-if2 Inv-loop μ-loop
 shared-slice-read-if2 c = search (needs, peels)
 
--- src/lib.rt:188:5
 loop-less : tie.Need-loop-less Inv-loop μ-loop
 loop-less c = search (needs, peels)
 
--- src/lib.rt:188:5
 loop-again : tie.Need-loop-again Inv-loop μ-loop
 loop-again c = search (needs, peels)
 
--- src/lib.rt:184:1
 returns : tie.Need-returns Inv-loop μ-loop
 returns c = search (needs, peels)
 
--- src/lib.rt:184:1
 returns-2 : tie.Need-returns-2 Inv-loop μ-loop
 returns-2 c = search (needs, peels)
 

@@ -8,8 +8,6 @@ use Rattle.value.specs.Run.{notShut}
 use Rattle.value.proofs.Suffixing.{brackets}
 use Rattle.value.proofs.next_shut.Statement.{statement}
 use Rattle.value.proofs.next_shut.Tie as tie
-use Rattle.value.proofs.next_shut.Reads as reads
-use Rattle.value.proofs.next_shut.Lts as lts
 
 abbrev Inv-loop : tie.InvT-loop
 Inv-loop t from i₀ i = (i ≤ length t) × (i + span (one notShut) (drop i t) ≡ from + span (one notShut) (drop from t))
@@ -17,31 +15,24 @@ Inv-loop t from i₀ i = (i ≤ length t) × (i + span (one notShut) (drop i t) 
 abbrev μ-loop : tie.MeasureT-loop
 μ-loop t from i₀ i = length t - i
 
--- src/lib.rt:335:5
 loop-holds : tie.Need-loop-holds Inv-loop μ-loop
 loop-holds c = search (needs, scanning, brackets)
 
--- src/lib.rt:336:12
 shared-slice-read-if1 : tie.Need-shared-slice-read-if1 Inv-loop μ-loop
 shared-slice-read-if1 c = search (needs, scanning, brackets)
 
--- src/lib.rt:337:13
 returns : tie.Need-returns Inv-loop μ-loop
 returns c = search (needs, scanning, brackets)
 
--- src/lib.rt:339:9
 add-i : tie.Need-add-i Inv-loop μ-loop
 add-i c = search (needs, scanning, brackets)
 
--- src/lib.rt:335:5
 loop-less : tie.Need-loop-less Inv-loop μ-loop
 loop-less c = search (needs, scanning, brackets)
 
--- src/lib.rt:335:5
 loop-again : tie.Need-loop-again Inv-loop μ-loop
 loop-again c = search (needs, scanning, brackets)
 
--- src/lib.rt:330:1
 returns-2 : tie.Need-returns-2 Inv-loop μ-loop
 returns-2 c = search (needs, scanning, brackets)
 

@@ -2,48 +2,34 @@ use Rattle.value.proofs.Peels.{peels}
 use borrow.Author.Needs.{needs}
 use Rattle.value.proofs.peel.Statement.{statement}
 use Rattle.value.proofs.peel.Tie as tie
-use Rattle.value.proofs.peel.Reads as reads
-use Rattle.value.proofs.peel.Lts as lts
-use Rattle.value.proofs.bracket.Reads as bracket-reads
-use Rattle.value.proofs.last_bracket.Reads as last-bracket-reads
 
--- src/lib.rt:227:9
 returns : tie.Need-returns
 returns c = search (needs, peels)
 
--- src/lib.rt:229:13
 sub-e : tie.Need-sub-e
 sub-e c = search needs
 
--- src/lib.rt:230:8
 shared-slice-read-if2 : tie.Need-shared-slice-read-if2
 shared-slice-read-if2 c = search needs
 
--- src/lib.rt:231:13
 last-bracket-requires : tie.Need-last-bracket-requires
 last-bracket-requires c κs = search needs
 
--- src/lib.rt:233:23
 enum-known-p : tie.Need-enum-known-p
 enum-known-p c = search needs
 
--- src/lib.rt:233:29
 bracket-requires : tie.Need-bracket-requires
 bracket-requires c κs = search (needs, peels)
 
--- src/lib.rt:234:31
 enum-told : tie.Need-enum-told
 enum-told c = search needs
 
--- src/lib.rt:232:9
 returns-2 : tie.Need-returns-2
 returns-2 c = search needs
 
--- src/lib.rt:232:9
 returns-3 : tie.Need-returns-3
 returns-3 c = search (needs, peels)
 
--- src/lib.rt:223:1
 returns-4 : tie.Need-returns-4
 returns-4 c = search (needs, peels)
 

@@ -2,22 +2,16 @@ use Rattle.value.proofs.Widths.{widths}
 use borrow.Author.Needs.{needs}
 use Rattle.value.proofs.uint.Statement.{statement}
 use Rattle.value.proofs.uint.Tie as tie
-use Rattle.value.proofs.uint.Reads as reads
-use Rattle.value.proofs.uint.Lts as lts
 
--- src/lib.rt:127:29
 enum-known-w : tie.Need-enum-known-w
 enum-known-w c = search needs
 
--- src/lib.rt:128:51
 enum-told : tie.Need-enum-told
 enum-told c = search needs
 
--- src/lib.rt:123:1
 returns : tie.Need-returns
 returns c = search (needs, widths)
 
--- src/lib.rt:123:1
 returns-2 : tie.Need-returns-2
 returns-2 c = search (needs, widths)
 

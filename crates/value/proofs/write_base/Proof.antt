@@ -2,158 +2,115 @@ use Rattle.value.proofs.Written.{bases}
 use borrow.Author.Needs.{needs}
 use Rattle.value.proofs.write_base.Statement.{statement}
 use Rattle.value.proofs.write_base.Tie as tie
-use Rattle.value.proofs.write_base.Reads as reads
-use Rattle.value.proofs.write_base.Lts as lts
-use Rattle.layout.proofs.header.Reads as header-reads
-use Rattle.value.proofs.BitWidth.get.Reads as BitWidth-get-reads
-use Rattle.value.proofs.ByteLength.get.Reads as ByteLength-get-reads
-use Rattle.value.proofs.numbered.Reads as numbered-reads
 
--- src/lib.rt:317:19
 enum-known-b : tie.Need-enum-known-b
 enum-known-b c = search needs
 
--- src/lib.rt:317:45
 get-requires : tie.Need-get-requires
 get-requires c κs = search needs
 
--- src/lib.rt:317:45
 cast-numbered : tie.Need-cast-numbered
 cast-numbered c = search needs
 
--- src/lib.rt:317:25
 numbered-requires : tie.Need-numbered-requires
 numbered-requires c κs = search (needs, bases)
 
--- src/lib.rt:318:20
 enum-known-b-2 : tie.Need-enum-known-b-2
 enum-known-b-2 c = search needs
 
--- src/lib.rt:318:46
 get-requires-2 : tie.Need-get-requires-2
 get-requires-2 c κs = search needs
 
--- src/lib.rt:318:46
 cast-numbered-2 : tie.Need-cast-numbered-2
 cast-numbered-2 c = search needs
 
--- src/lib.rt:318:26
 numbered-requires-2 : tie.Need-numbered-requires-2
 numbered-requires-2 c κs = search (needs, bases)
 
--- src/lib.rt:319:41
 enum-told : tie.Need-enum-told
 enum-told c = search needs
 
--- src/lib.rt:319:26
 header-requires : tie.Need-header-requires
 header-requires c κs = search (needs, bases)
 
--- src/lib.rt:320:38
 enum-told-2 : tie.Need-enum-told-2
 enum-told-2 c = search needs
 
--- src/lib.rt:320:23
 header-requires-2 : tie.Need-header-requires-2
 header-requires-2 c κs = search (needs, bases)
 
--- src/lib.rt:321:26
 enum-known-b-3 : tie.Need-enum-known-b-3
 enum-known-b-3 c = search needs
 
--- src/lib.rt:321:52
 get-requires-3 : tie.Need-get-requires-3
 get-requires-3 c κs = search needs
 
--- src/lib.rt:321:32
 numbered-requires-3 : tie.Need-numbered-requires-3
 numbered-requires-3 c κs = search (needs, bases)
 
--- src/lib.rt:322:42
 enum-told-3 : tie.Need-enum-told-3
 enum-told-3 c = search needs
 
--- src/lib.rt:322:27
 header-requires-3 : tie.Need-header-requires-3
 header-requires-3 c κs = search (needs, bases)
 
--- src/lib.rt:323:39
 enum-told-4 : tie.Need-enum-told-4
 enum-told-4 c = search needs
 
--- src/lib.rt:323:24
 header-requires-4 : tie.Need-header-requires-4
 header-requires-4 c κs = search (needs, bases)
 
--- src/lib.rt:324:40
 enum-told-5 : tie.Need-enum-told-5
 enum-told-5 c = search needs
 
--- src/lib.rt:324:25
 header-requires-5 : tie.Need-header-requires-5
 header-requires-5 c κs = search (needs, bases)
 
--- src/lib.rt:312:1
 same-length : tie.Need-same-length
 same-length c = search needs
 
--- src/lib.rt:312:1
 returns : tie.Need-returns
 returns c = search (needs, bases)
 
--- src/lib.rt:312:1
 same-length-2 : tie.Need-same-length-2
 same-length-2 c = search needs
 
--- src/lib.rt:312:1
 returns-2 : tie.Need-returns-2
 returns-2 c = search (needs, bases)
 
--- src/lib.rt:312:1
 same-length-3 : tie.Need-same-length-3
 same-length-3 c = search needs
 
--- src/lib.rt:312:1
 returns-3 : tie.Need-returns-3
 returns-3 c = search (needs, bases)
 
--- src/lib.rt:312:1
 same-length-4 : tie.Need-same-length-4
 same-length-4 c = search needs
 
--- src/lib.rt:312:1
 returns-4 : tie.Need-returns-4
 returns-4 c = search (needs, bases)
 
--- src/lib.rt:312:1
 same-length-5 : tie.Need-same-length-5
 same-length-5 c = search needs
 
--- src/lib.rt:312:1
 returns-5 : tie.Need-returns-5
 returns-5 c = search (needs, bases)
 
--- src/lib.rt:312:1
 same-length-6 : tie.Need-same-length-6
 same-length-6 c = search needs
 
--- src/lib.rt:312:1
 returns-6 : tie.Need-returns-6
 returns-6 c = search (needs, bases)
 
--- src/lib.rt:312:1
 same-length-7 : tie.Need-same-length-7
 same-length-7 c = search needs
 
--- src/lib.rt:312:1
 returns-7 : tie.Need-returns-7
 returns-7 c = search (needs, bases)
 
--- src/lib.rt:312:1
 same-length-8 : tie.Need-same-length-8
 same-length-8 c = search needs
 
--- src/lib.rt:312:1
 returns-8 : tie.Need-returns-8
 returns-8 c = search (needs, bases)
 

@@ -2,67 +2,46 @@ use Rattle.value.proofs.Leaves.{leaf-suffixes, leaf-puts}
 use borrow.Author.Needs.{needs}
 use Rattle.value.proofs.write_leaf.Statement.{statement}
 use Rattle.value.proofs.write_leaf.Tie as tie
-use Rattle.value.proofs.write_leaf.Reads as reads
-use Rattle.value.proofs.write_leaf.Lts as lts
-use Rattle.layout.proofs.copy.Reads as copy-reads
-use Rattle.layout.proofs.front.Reads as front-reads
-use Rattle.value.proofs.base_length.Reads as base-length-reads
-use Rattle.value.proofs.write_base.Reads as write-base-reads
-use Rattle.value.proofs.write_suffixes.Reads as write-suffixes-reads
 
--- src/lib.rt:399:9
 base-length-requires : tie.Need-base-length-requires
 base-length-requires c κs = search needs
 
--- src/lib.rt:400:36
 add-front : tie.Need-add-front
 add-front c = search needs
 
--- src/lib.rt:400:5
 front-requires : tie.Need-front-requires
 front-requires c κs = search needs
 
--- src/lib.rt:401:23
 add-copy : tie.Need-add-copy
 add-copy c = search needs
 
--- src/lib.rt:401:5
 copy-requires : tie.Need-copy-requires
 copy-requires c κs = search needs
 
--- src/lib.rt:402:21
 add-write-base : tie.Need-add-write-base
 add-write-base c = search needs
 
--- src/lib.rt:402:21
 add-write-base-2 : tie.Need-add-write-base-2
 add-write-base-2 c = search needs
 
--- src/lib.rt:402:5
 write-base-requires : tie.Need-write-base-requires
 write-base-requires c κs = search needs
 
--- src/lib.rt:403:34
 add-write-suffixes : tie.Need-add-write-suffixes
 add-write-suffixes c = search needs
 
--- src/lib.rt:403:34
 add-write-suffixes-2 : tie.Need-add-write-suffixes-2
 add-write-suffixes-2 c = search needs
 
--- src/lib.rt:403:34
 add-write-suffixes-3 : tie.Need-add-write-suffixes-3
 add-write-suffixes-3 c = search needs
 
--- src/lib.rt:403:5
 write-suffixes-requires : tie.Need-write-suffixes-requires
 write-suffixes-requires c κs = leaf-suffixes _ _ _ _ 0 _ _ _ (c .before .before .before .before .before .before .before .before .before .before .before .before .before .before .before .before .before .pre) _ _ (search needs) (c .before .before .before .before .before .before .before .before .before .before .before .before .before .base-length .ensures .0)
 
--- src/lib.rt:394:1
 same-length : tie.Need-same-length
 same-length c = search needs
 
--- src/lib.rt:394:1
 returns : tie.Need-returns
 returns c = leaf-puts _ _ _ _ _ _ _ _ (c .before .before .before .before .before .before .before .before .before .before .before .before .before .before .before .before .before .before .before .before .pre) _ _ _ _ _ (c .before .before .before .before .before .before .before .before .before .before .before .before .before .before .before .before .base-length .ensures .0) (c .before .before .before .before .before .before .before .before .before .before .before .before .before .before .front .ensures) (c .before .before .before .before .before .before .before .before .before .before .copy .ensures) (c .before .before .before .before .before .before .write-base .ensures) (c .before .before .write-suffixes .ensures)
 

@@ -4,9 +4,6 @@ use lib.ListN.{length}
 use Rattle.value.proofs.Suffixing.{brackets, Writing}
 use Rattle.value.proofs.write_suffixes.Statement.{statement}
 use Rattle.value.proofs.write_suffixes.Tie as tie
-use Rattle.value.proofs.write_suffixes.Reads as reads
-use Rattle.value.proofs.write_suffixes.Lts as lts
-use Rattle.value.proofs.write_suffix.Reads as write-suffix-reads
 
 abbrev Inv-loop : tie.InvT-loop
 Inv-loop t from out₀ o p₀ q₀ out p q = Writing t from o out₀ p q out
@@ -14,27 +11,21 @@ Inv-loop t from out₀ o p₀ q₀ out p q = Writing t from o out₀ p q out
 abbrev μ-loop : tie.MeasureT-loop
 μ-loop t from out₀ o p₀ q₀ out p q = length t - p
 
--- src/lib.rt:385:5
 loop-holds : tie.Need-loop-holds Inv-loop μ-loop
 loop-holds c = search (needs, brackets)
 
--- src/lib.rt:386:13
 write-suffix-requires : tie.Need-write-suffix-requires Inv-loop μ-loop
 write-suffix-requires c κs = search (needs, brackets)
 
--- src/lib.rt:385:5
 loop-less : tie.Need-loop-less Inv-loop μ-loop
 loop-less c = search (needs, brackets)
 
--- src/lib.rt:385:5
 loop-again : tie.Need-loop-again Inv-loop μ-loop
 loop-again c = search (needs, brackets)
 
--- src/lib.rt:379:1
 same-length : tie.Need-same-length Inv-loop μ-loop
 same-length c = search (needs, brackets)
 
--- src/lib.rt:379:1
 returns : tie.Need-returns Inv-loop μ-loop
 returns c = search (needs, brackets)
 

@@ -2,22 +2,16 @@ use borrow.Author.Needs.{needs}
 use Rattle.value.proofs.Widths.{widths}
 use Rattle.value.proofs.BitWidth.new.Statement.{statement}
 use Rattle.value.proofs.BitWidth.new.Tie as tie
-use Rattle.value.proofs.BitWidth.new.Reads as reads
-use Rattle.value.proofs.BitWidth.new.Lts as lts
 
--- src/lib.rt:32:13
 returns : tie.Need-returns
 returns c = search (needs, widths)
 
--- src/lib.rt:35:13
 returns-2 : tie.Need-returns-2
 returns-2 c = search (needs, widths)
 
--- src/lib.rt:38:13
 returns-3 : tie.Need-returns-3
 returns-3 c = search (needs, widths)
 
--- src/lib.rt:28:5
 returns-4 : tie.Need-returns-4
 returns-4 c = search (needs, widths)
 
