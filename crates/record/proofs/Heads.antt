@@ -1,16 +1,14 @@
--- Heads of records, and numbers of eight bytes.
+-- Heads of records.
 -- Assumes nothing.
 use mathlib.Core.Path.{_≡_, refl}
 use mathlib.Core.Bool.{Bool, true, false, _&&_, and-eq-true-iff}
-use mathlib.Core.List.{List, _++_}
-use Prim.Native.Nat.{ℕ, _+_, _*_, _≤_, _<_}
+use mathlib.Core.List.{List}
+use Prim.Native.Nat.{ℕ, _≤_, _<_}
 use native.Mathlib.Omega.{arith}
 use lib.Dec.{leb}
-use lib.ListN.{length, take, drop, length-drop}
-use lib.Seq.{length-take-le}
+use lib.ListN.{length, take, drop}
 use borrow.Author.Tests.{leb-true, le-leb}
 use Rattle.model.specs.Layout.{leValue, noPiece, pieceOf}
-use Rattle.layout.proofs.Copies.{le-append}
 use Rattle.record.specs.Parts.{Head}
 
 -- no record, where its length does not lie between 6 and what there is
@@ -36,10 +34,4 @@ head-is b n e h = record {
   some = λ x. rw e (rw (pieceOf, le-leb 6 (leValue (take 4 b)) (omega arith), le-leb (leValue (take 4 b)) (length b) (omega arith)));
 }
 
--- bytes in two halves
-pub eight-sum : (t : List ℕ) (a b x y : ℕ) → a + 4 ≤ length t → x ≡ leValue (take 4 (drop a t)) → y ≡ leValue (take 4 (drop b t)) → x + 4294967296 * y ≡ leValue (take 4 (drop a t) ++ take 4 (drop b t))
-eight-sum t a b x y h e f =
-    let four : length (take 4 (drop a t)) ≡ 4 = length-take-le 4 (drop a t) (rw length-drop (omega arith)) in
-    omega (arith, rw four at (le-append (take 4 (drop a t)) (take 4 (drop b t))))
-
-pub ruleset heads = (head-short, head-long, head-is, eight-sum)
+pub ruleset heads = (head-short, head-long, head-is)

@@ -7,4 +7,3 @@ pub mod Walk
 pub mod Tops
 pub mod There
 pub mod Whole
-pub mod Eights

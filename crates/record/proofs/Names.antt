@@ -1,50 +1,78 @@
 -- Names and marks, by the tests that the code makes.
 -- Assumes nothing.
-use mathlib.Core.Path.{_≡_, refl, sym}
+use mathlib.Core.Path.{_≡_, refl, sym, _∙_}
 use mathlib.Core.Bool.{Bool, true, false, or-false}
 use mathlib.Core.List.{List, [], _∷_}
-use Prim.Native.Nat.{ℕ, _+_, _≤_, _<_}
+use Prim.Native.Nat.{ℕ, zero, suc, _-_, _≤_, _<_}
 use native.Mathlib.Omega.{arith}
-use native.Mathlib.Numerals.{add-one}
-use lib.Dec.{eqb}
-use lib.ListN.{length, drop, getD, drop-of-length-le}
-use lib.Seq.{drop-cons}
-use borrow.Author.Tests.{ne-eqb}
+use lib.Dec.{leb, leb·zero, leb·suc-zero, leb·suc-suc, eqb}
+use lib.ListN.{length, take, drop, length-drop}
+use lib.Seq.{length-take-le, take-take}
+use borrow.Author.Tests.{le-leb, ne-eqb}
 use Rattle.kinds.specs.Bytes.{ascii, all, same, isLetter, isWordByte, isWord}
+use Rattle.kinds.proofs.Logic.{both, left, right, all-weaken, letter-word}
+use Rattle.model.specs.Text.{spanFrom, span, one, wordLength}
+use Rattle.model.proofs.Scans.{part-rest, span-le}
+use Rattle.text.specs.Found.{isAlphabetic}
+use Rattle.text.proofs.Eights.{alphabetic}
 use Rattle.model.specs.declared.Sort.{Sort}
 use Rattle.model.specs.declared.Sort.the-variants.{Plain, Parameter, Event}
 use Rattle.model.specs.Record.{isFieldName, isMark}
 
--- a word by its first byte and the others, where r is the code's test
-pub word-empty : (t : List ℕ) → length t ≡ 0 → false ≡ isWord t
-word-empty [] h = refl
-word-empty (c ∷ t) h = absurd (omega arith)
+-- the first n items are all that pass, where the scan goes that far
+span-front : (p : ℕ → Bool) (n : ℕ) (t : List ℕ) → n ≤ length t → leb n (span (one p) t) ≡ all p (take n t)
+unfolding spanFrom
+span-front p zero t h = leb·zero (span (one p) t)
+span-front p (suc n) [] h = absurd (omega arith)
+span-front p (suc n) (c ∷ t) h = go (p c) refl (span-front p n t (omega arith))
+  where
+    go : (b : Bool) → p c ≡ b → leb n (span (one p) t) ≡ all p (take n t) → leb (suc n) (span (one p) (c ∷ t)) ≡ all p (take (suc n) (c ∷ t))
+    go true e i = rw (spanFrom, e, leb·suc-suc n (span (one p) t)) i
+    go false e i = rw (spanFrom, e, leb·suc-zero n)
 
-pub word-none : (t : List ℕ) (r : Bool) → (length t ≡ 0 → ⊥) → r ≡ isLetter (getD t 0 0) → r ≡ false → false ≡ isWord t
-word-none [] r h e f = absurd (h refl)
-word-none (c ∷ t) r h e f = rw (← e, f)
+word-front : (n : ℕ) (t : List ℕ) → 0 < n → n ≤ length t → leb n (wordLength t) ≡ isWord (take n t)
+unfolding wordLength
+word-front zero t k h = absurd (omega arith)
+word-front (suc n) [] k h = absurd (omega arith)
+word-front (suc n) (c ∷ t) k h = go (isLetter c) refl
+  where
+    go : (b : Bool) → isLetter c ≡ b → leb (suc n) (wordLength (c ∷ t)) ≡ isWord (take (suc n) (c ∷ t))
+    go true e = rw (wordLength, e, leb·suc-suc n (span (one isWordByte) t)) (span-front isWordByte n t (omega arith))
+    go false e = rw (wordLength, e, leb·suc-zero n)
 
-pub word-first : (t : List ℕ) (r : Bool) → (length t ≡ 0 → ⊥) → r ≡ isLetter (getD t 0 0) → r ≡ true → all isWordByte (drop 1 t) ≡ isWord t
-word-first [] r h e f = absurd (h refl)
-word-first (c ∷ t) r h e f = rw (← e, f)
+lettered-word : (t : List ℕ) → 0 < length t → all isLetter t ≡ true → isWord t ≡ true
+lettered-word [] h e = absurd (omega arith)
+lettered-word (c ∷ t) h e = both (left {a = isLetter c} (all isLetter t) e) (all-weaken isLetter isWordByte letter-word t (right (isLetter c) e))
 
-module _ (t : List ℕ) (i : ℕ) (r : Bool) (h : i < length t) (e : r ≡ isWordByte (getD t i 0)) where
-  pub word-stop : r ≡ false → all isWordByte (drop i t) ≡ isWord t → false ≡ isWord t
-  word-stop f g = rw (drop-cons t i 0 h, all, ← e, f) at g
+-- the bytes of a part from a place up to another
+module _ (t : List ℕ) (from to : ℕ) where
+  empty : from ≡ to → take (to - from) (drop from t) ≡ []
+  empty e = let z : to - from ≡ 0 = omega arith in rw z
 
-  pub word-more : r ≡ true → all isWordByte (drop i t) ≡ isWord t → all isWordByte (drop (i + 1) t) ≡ isWord t
-  word-more f g = rw add-one (rw (drop-cons t i 0 h, all, ← e, f) at g)
+  pub word-empty : from ≡ to → false ≡ isWord (take (to - from) (drop from t))
+  word-empty e = rw (empty e)
 
-pub word-end : (t : List ℕ) (i : ℕ) → length t ≤ i → all isWordByte (drop i t) ≡ isWord t → true ≡ isWord t
-word-end t i h g = rw (drop-of-length-le t h) at g
+  pub word-whole : (w : ℕ) → from ≤ to → to ≤ length t → (from ≡ to → ⊥) → w ≡ wordLength (take (length t - from) (drop from t)) → leb (to - from) w ≡ isWord (take (to - from) (drop from t))
+  word-whole w h k n e =
+      let f : w ≡ wordLength (drop from t) = rw part-rest at e in
+      rw f (word-front (to - from) (drop from t) (omega arith) (rw length-drop (omega arith)))
 
-pub field-name-empty : (t : List ℕ) → length t ≡ 0 → true ≡ isFieldName t
-field-name-empty [] h = refl
-field-name-empty (c ∷ t) h = absurd (omega arith)
+  pub word-lettered : (c : ℕ) → from ≤ to → to ≤ length t → (from ≡ to → ⊥) → c ≡ span (one isAlphabetic) (take 8 (drop from t)) → c ≤ 8 → to - from ≤ c → true ≡ isWord (take (to - from) (drop from t))
+  word-lettered c h k n e l m =
+      let long : to - from ≤ length (take 8 (drop from t)) = omega (arith, e, span-le (one isAlphabetic) (take 8 (drop from t))) in
+      let x : all isAlphabetic (take (to - from) (take 8 (drop from t))) ≡ true = sym (span-front isAlphabetic (to - from) (take 8 (drop from t)) long) ∙ rw (← e) (le-leb (to - from) c m) in
+      let y : all isAlphabetic (take (to - from) (drop from t)) ≡ true = rw (take-take (to - from) 8 (drop from t) (omega arith)) at x in
+      sym (lettered-word (take (to - from) (drop from t)) (omega (arith, length-take-le (to - from) (drop from t) (rw length-drop (omega arith)))) (alphabetic (take (to - from) (drop from t)) y))
 
-pub field-name-word : (t : List ℕ) (r : Bool) → (length t ≡ 0 → ⊥) → r ≡ isWord t → r ≡ isFieldName t
-field-name-word [] r h e = absurd (h refl)
-field-name-word (c ∷ t) r h e = e
+  pub field-name-empty : from ≡ to → true ≡ isFieldName (take (to - from) (drop from t))
+  field-name-empty e = rw (empty e)
+
+  pub field-name-word : (r : Bool) → from ≤ to → to ≤ length t → (from ≡ to → ⊥) → r ≡ isWord (take (to - from) (drop from t)) → r ≡ isFieldName (take (to - from) (drop from t))
+  field-name-word r h k n e = named (take (to - from) (drop from t)) (omega (arith, length-take-le (to - from) (drop from t) (rw length-drop (omega arith)))) e
+    where
+      named : (u : List ℕ) → 0 < length u → r ≡ isWord u → r ≡ isFieldName u
+      named [] l q = absurd (omega arith)
+      named (c ∷ u) l q = q
 
 -- marks
 module _ (sort : Sort) (m : ℕ) (nm : List ℕ) where
@@ -76,4 +104,4 @@ module _ (sort : Sort) (m : ℕ) (nm : List ℕ) where
   unfolding isMark
   mark-indexed e f = rw (e, ne-eqb m 0 f) (sym (or-false (eqb m 1)))
 
-pub ruleset naming = (word-empty, word-none, word-first, word-stop, word-more, word-end, field-name-empty, field-name-word, mark-plain, mark-parameter, mark-taken, mark-free, mark-not-plain, mark-not-parameter, mark-indexed)
+pub ruleset naming = (word-empty, word-whole, word-lettered, field-name-empty, field-name-word, mark-plain, mark-parameter, mark-taken, mark-free, mark-not-plain, mark-not-parameter, mark-indexed)

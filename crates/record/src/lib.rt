@@ -3,14 +3,13 @@
 use model::Keyword;
 use model::Sort;
 ghost use mathlib.Core.Path.{_≡_};
-ghost use Prim.Native.Nat.{_+_, _*_, _≤_, _<_};
+ghost use Prim.Native.Nat.{_+_, _*_, _-_, _≤_, _<_};
 ghost use lib.ListN.{length, take, drop};
-ghost use Rattle.kinds.specs.Bytes.{all, isLetter, isWord};
+ghost use Rattle.kinds.specs.Bytes.{isWord};
 ghost use Rattle.kinds.specs.Decimal.{decimal};
 ghost use Rattle.kinds.specs.Kind.{isBitWidth, isByteLength};
-ghost use Rattle.model.specs.Layout.{littleEndian, leValue};
 ghost use mathlib.Core.Bool.{true};
-ghost use mathlib.Core.List.{[], _++_};
+ghost use mathlib.Core.List.{[]};
 ghost use mathlib.Core.Option.{none};
 ghost use Rattle.model.specs.declared.Sort.the-variants.{Plain};
 ghost use Rattle.model.specs.Record.{isFieldName, isMark, decodeField, functionFrom, constructorFrom, eventFrom, errorFrom, decode, decodeLone};
@@ -30,14 +29,6 @@ fn record_length(b: &[u8]) -> usize
         return 0;
     }
     n
-}
-
-// The number of four bytes at a place and four at another.
-fn eight(t: &[u8], a: usize, b: usize) -> u64
-    requires { ⌜ (a + 4 ≤ length (now t)) × (b + 4 ≤ length (now t)) ⌝ }
-    ensures { λ r. ⌜ r ≡ leValue (take 4 (drop a (now (t .entry))) ++ take 4 (drop b (now (t .entry)))) ⌝ }
-{
-    layout::get4(t, a) as u64 + 4294967296 * (layout::get4(t, b) as u64)
 }
 
 // How many digits a number has.
@@ -199,67 +190,32 @@ fn suffixes(b: &[u8], text: usize) -> usize
     n
 }
 
-// Whether eight bytes are all letters.
-fn letters(v: u64) -> bool
-    ensures { λ r. ⌜ (r ≡ true → all isLetter (littleEndian 8 v) ≡ true) ⌝ }
+// "names that are words": whether the bytes from a place of a part up to another are one. The part goes on behind them, so that there are eight
+// bytes to take at once; most names are of at most eight letters.
+fn is_word(t: &[u8], from: usize, to: usize) -> bool
+    requires { ⌜ (from ≤ to) × (to ≤ length (now t)) ⌝ }
+    ensures { λ r. ⌜ r ≡ isWord (take (to - from) (drop from (now (t .entry)))) ⌝ }
 {
-    text::others(v) == 0
-}
-
-// Whether a name is of letters alone, eight bytes at a time, the last eight once more: the quick way for most names of four bytes or more.
-fn is_lettered(t: &[u8]) -> bool
-    ensures { λ r. ⌜ (r ≡ true → isWord (now (t .entry)) ≡ true) ⌝ }
-{
-    let n = t.len();
-    if n < 4 {
+    if from == to {
         return false;
     }
-    let mut i = 0;
-    while 8 < n - i {
-        if letters(eight(t, i, i + 4)) {
-            i += 8;
-        } else {
-            return false;
+    if 8 <= t.len() - from {
+        if to - from <= text::letters(t, from) {
+            return true;
         }
     }
-    if n < 8 {
-        return letters(eight(t, 0, n - 4));
-    }
-    letters(eight(t, n - 8, n - 4))
-}
-
-// "names that are words"
-fn is_word(t: &[u8]) -> bool
-    ensures { λ r. ⌜ r ≡ isWord (now (t .entry)) ⌝ }
-{
-    if is_lettered(t) {
-        return true;
-    }
-    if t.len() == 0 {
-        return false;
-    }
-    if text::is_letter(t[0]) {
-        let mut i = 1;
-        while i < t.len() {
-            if text::is_word_byte(t[i]) {
-                i += 1;
-            } else {
-                return false;
-            }
-        }
-        return true;
-    }
-    false
+    to - from <= text::word(&t[from..])
 }
 
 // "(only a field's may be empty)"
-fn is_field_name(t: &[u8]) -> bool
-    ensures { λ r. ⌜ r ≡ isFieldName (now (t .entry)) ⌝ }
+fn is_field_name(t: &[u8], from: usize, to: usize) -> bool
+    requires { ⌜ (from ≤ to) × (to ≤ length (now t)) ⌝ }
+    ensures { λ r. ⌜ r ≡ isFieldName (take (to - from) (drop from (now (t .entry)))) ⌝ }
 {
-    if t.len() == 0 {
+    if from == to {
         return true;
     }
-    is_word(t)
+    is_word(t, from, to)
 }
 
 // "mark 1 only in an event's own list, and there no mark 0 with the name `indexed`"
@@ -301,7 +257,7 @@ fn front(body: &[u8], sort: Sort) -> usize
     if layout::get2(t, 4) == 0x11 {
         let name = &t[6..m];
         if is_mark(sort, layout::get2(body, 0), name) {
-            if is_field_name(name) {
+            if is_field_name(t, 6, m) {
                 return 2 + m;
             }
         }
@@ -420,7 +376,7 @@ fn name_end(b: &[u8], at: usize) -> usize
         return 0;
     }
     if layout::get2(t, 4) == 0x11 {
-        if is_word(&t[6..n]) {
+        if is_word(t, 6, n) {
             return at + n;
         }
     }

@@ -268,19 +268,6 @@ module _ (p : ℕ → Bool) where
         let m : bits (length (littleEndian 8 v)) ≡ 64 = rw (le-length 8 v) in
         q ∙ ap (λ y. y / 8) (ap₂ trailingZeros (sym m) g) ∙ leading-span (littleEndian 8 v) ∙ ap (span (one p)) (eight-back b h e)
 
-  -- no bit set: all pass
-  clear-first : (c r : ℕ) → flag p c + 256 * r ≡ 0 → p c ≡ true
-  clear-first c r e = go (p c) refl
-    where
-      go : (b : Bool) → p c ≡ b → b ≡ true
-      go true q = refl
-      go false q = absurd (omega (arith, flag-by c false q))
-
-  all-clear : (t : List ℕ) → flags p t ≡ 0 → all p t ≡ true
-  unfolding flags
-  all-clear [] e = refl
-  all-clear (c ∷ t) e = both (clear-first c (flags p t) e) (all-clear t (omega arith))
-
 -- a letter, by the two ranges
 ranged : (x y z : Bool) → (x || y) ≡ true → (x || (y || z)) ≡ true
 ranged true y z h = refl
@@ -289,9 +276,6 @@ ranged false false z h = absurd (false≢true h)
 
 pub alphabetic : (t : List ℕ) → all isAlphabetic t ≡ true → all isLetter t ≡ true
 alphabetic t h = all-weaken isAlphabetic isLetter (λ c q. ranged (between 97 122 c) (between 65 90 c) _ q) t h
-
-pub letters-all : (t : List ℕ) → flags isAlphabetic t ≡ 0 → all isLetter t ≡ true
-letters-all t e = alphabetic t (all-clear isAlphabetic t e)
 
 pub known-bytes : (t : List ℕ) → ((i : ℕ) → getD t i 0 < 256) → Bytes t
 unfolding Bytes

@@ -73,7 +73,7 @@ pub fn digits(t: &[u8]) -> usize
 
 // The bit of 128 of each of eight bytes that is none of a-z, A-Z: it has that bit itself or, without it and with the bit of 32, is below 97 or
 // above 122.
-pub fn others(v: u64) -> u64
+fn others(v: u64) -> u64
     ensures { λ r. ⌜ r ≡ flags isAlphabetic (littleEndian 8 v) ⌝ }
 {
     let u = v & 0x7F7F7F7F7F7F7F7F | 0x2020202020202020;
@@ -88,7 +88,7 @@ fn lead(f: u64) -> usize
 }
 
 // How many of a-z, A-Z eight bytes begin with.
-fn letters(t: &[u8], at: usize) -> usize
+pub fn letters(t: &[u8], at: usize) -> usize
     requires { ⌜ at + 8 ≤ length (now t) ⌝ }
     ensures { λ r. ⌜ (r ≡ span (one isAlphabetic) (take 8 (drop at (now (t .entry))))) × (r ≤ 8) ⌝ }
 {

@@ -1,77 +1,53 @@
-use borrow.Author.Needs.{needs}
 use Rattle.record.proofs.Names.{naming}
-use mathlib.Core.Path.{_≡_, sym}
-use Prim.Native.Nat.{_-_, _≤_}
-use lib.ListN.{length, drop}
-use Rattle.kinds.specs.Bytes.{all, isWordByte, isWord}
+use borrow.Author.Needs.{needs}
 use Rattle.record.proofs.is_word.Statement.{statement}
 use Rattle.record.proofs.is_word.Tie as tie
 
-abbrev Inv-loop : tie.InvT-loop
-Inv-loop t i₀ i = (i ≤ length t) × (all isWordByte (drop i t) ≡ isWord t)
+returns : tie.Need-returns
+returns c = search (needs, naming)
 
-abbrev μ-loop : tie.MeasureT-loop
-μ-loop t i₀ i = length t - i
+sub-if2 : tie.Need-sub-if2
+sub-if2 c = search needs
 
-is-lettered-requires : tie.Need-is-lettered-requires Inv-loop μ-loop
-is-lettered-requires c κs = search (needs, naming)
+sub-if3 : tie.Need-sub-if3
+sub-if3 c = search needs
 
-returns : tie.Need-returns Inv-loop μ-loop
-returns c = sym (c .before .is-lettered .ensures (c .if1 .taken))
+letters-requires : tie.Need-letters-requires
+letters-requires c κs = search needs
 
-returns-2 : tie.Need-returns-2 Inv-loop μ-loop
+returns-2 : tie.Need-returns-2
 returns-2 c = search (needs, naming)
 
-shared-slice-read-is-letter : tie.Need-shared-slice-read-is-letter Inv-loop μ-loop
-shared-slice-read-is-letter c = search (needs, naming)
+sub-result : tie.Need-sub-result
+sub-result c = search needs
 
-is-letter-requires : tie.Need-is-letter-requires Inv-loop μ-loop
-is-letter-requires c κs = search (needs, naming)
+sub-word : tie.Need-sub-word
+sub-word c = search needs
 
-loop-holds : tie.Need-loop-holds Inv-loop μ-loop
-loop-holds c = search (needs, naming)
+part-word-start : tie.Need-part-word-start
+part-word-start c = search needs
 
-shared-slice-read-is-word-byte : tie.Need-shared-slice-read-is-word-byte Inv-loop μ-loop
-shared-slice-read-is-word-byte c = search (needs, naming)
+part-word-end : tie.Need-part-word-end
+part-word-end c = search needs
 
-is-word-byte-requires : tie.Need-is-word-byte-requires Inv-loop μ-loop
-is-word-byte-requires c κs = search (needs, naming)
+word-requires : tie.Need-word-requires
+word-requires c κs = search needs
 
-add-i : tie.Need-add-i Inv-loop μ-loop
-add-i c = search (needs, naming)
-
-loop-less : tie.Need-loop-less Inv-loop μ-loop
-loop-less c = search (needs, naming)
-
-loop-again : tie.Need-loop-again Inv-loop μ-loop
-loop-again c = search (needs, naming)
-
-returns-3 : tie.Need-returns-3 Inv-loop μ-loop
+returns-3 : tie.Need-returns-3
 returns-3 c = search (needs, naming)
-
-returns-4 : tie.Need-returns-4 Inv-loop μ-loop
-returns-4 c = search (needs, naming)
-
-returns-5 : tie.Need-returns-5 Inv-loop μ-loop
-returns-5 c = search (needs, naming)
 
 pub is-word-spec : {M : Type 1} → statement M
 is-word-spec =
     tie.close
     (tie.spec
-    Inv-loop
-    μ-loop
-    is-lettered-requires
     returns
+    sub-if2
+    sub-if3
+    letters-requires
     returns-2
-    shared-slice-read-is-letter
-    is-letter-requires
-    loop-holds
-    shared-slice-read-is-word-byte
-    is-word-byte-requires
-    add-i
-    loop-less
-    loop-again
-    returns-3
-    returns-4
-    returns-5)
+    sub-result
+    sub-word
+    part-word-start
+    part-word-end
+    word-requires
+    returns-3)

@@ -21,12 +21,6 @@ returns c = search (needs, tops)
 get2-requires : tie.Need-get2-requires
 get2-requires c κs = search needs
 
-part-is-word-start : tie.Need-part-is-word-start
-part-is-word-start c = search needs
-
-part-is-word-end : tie.Need-part-is-word-end
-part-is-word-end c = search needs
-
 is-word-requires : tie.Need-is-word-requires
 is-word-requires c κs = search needs
 
@@ -52,8 +46,6 @@ name-end-spec =
     record-length-requires
     returns
     get2-requires
-    part-is-word-start
-    part-is-word-end
     is-word-requires
     add-result
     returns-2
