@@ -347,6 +347,7 @@ static void replay(void)
 
 /* What is timed: as many lines as fit, and the records that are read of them. */
 #define KEPT_MAX 65536
+#define STORE_MAX ((size_t)1 << 26)
 
 struct corpus {
     size_t count;
@@ -354,13 +355,13 @@ struct corpus {
 };
 
 static struct corpus texts, lined, functions;
-static uint8_t store[1 << 26];
+static uint8_t *store;
 static size_t stored;
 
 /* False where the store is full. */
 static bool keep(struct corpus *corpus, struct bytes bytes)
 {
-    if (corpus->count == KEPT_MAX || bytes.length > sizeof store - stored)
+    if (corpus->count == KEPT_MAX || bytes.length > STORE_MAX - stored)
         return false;
     memcpy(store + stored, bytes.at, bytes.length);
     corpus->kept[corpus->count++] = (struct bytes){store + stored, bytes.length};
@@ -415,6 +416,7 @@ static void bench(const char *path)
     window.file = open(path, O_RDONLY);
     if (window.file < 0)
         fail("bench: cannot open the file");
+    store = allocate(STORE_MAX);
     while (next_line(&line)) {
         if (!keep_line(judged(line))) {
             fprintf(stderr, "geusomin: bench: only the first %zu lines are timed\n", texts.count);
