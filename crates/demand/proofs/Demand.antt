@@ -15,18 +15,18 @@ use Rattle.kinds.specs.Kind.{Prototype, canonical}
 use Rattle.kinds.specs.Joined.{joined, Agree}
 use Rattle.model.specs.declared.Call.{Call}
 use Rattle.model.specs.declared.Call.the-variants as call
-use Rattle.model.specs.declared.Refusal.{Refusal}
 use Rattle.model.specs.declared.Answer.{Answer}
 use Rattle.model.specs.Tree.{Declaration, nameKinds}
 use Rattle.model.specs.Parser.{Ans, got, bad, deep}
 use Rattle.model.specs.Reading.{longestText, parse}
 use Rattle.model.specs.Record.{encode, decode, longestRecord, wellFormed}
 use Rattle.model.specs.Line.{keywordIn, canonicalText, line}
-use Rattle.model.specs.Answer.{accepted, refused, Output, writes, refuses, said, outcome, after, handed, refusalNumber}
+use Rattle.model.specs.Answer.{accepted, refused, Output, writes, said, outcome, after, handed, refusalNumber}
 use Rattle.model.specs.Calls.{written, readOutput, canonicalOutput, AllAccepted}
 use Rattle.model.specs.Calls as calls
 use Rattle.model.proofs.Pieces.{Bytes}
 use Rattle.model.proofs.Records.{decode-exactly, encode-bytes}
+use Rattle.model.proofs.Lengths.{refuses-not}
 use Rattle.model.proofs.Sound.{read-well-formed, record-small}
 use Rattle.model.proofs.Demand.{joined-texts, line-back}
 use Rattle.demand.specs.Runs.{ReadRun, CanonicalRun, LineOf, LinesOf, no-text, one-text, endToEnd, lineText, ReadBack}
@@ -37,9 +37,6 @@ accepted-same e = cc
 
 accepted-not : {n w p : ℕ} → refused w p ≡ accepted n → ⊥
 accepted-not e = let z : _≡_ {A = ℕ} 0 1 = cc in omega arith
-
-refuses-not : {w : Refusal} {p : ℕ} {u : List ℕ} → refuses w p ≡ writes u → ⊥
-refuses-not e = let z : _≡_ {A = ℕ} 0 1 = cc in omega arith
 
 -- a run that accepted wrote what there was to write; and one that was lent enough accepted
 module _ (o : Output) (u : List ℕ) (e : o ≡ writes u) (room left : List ℕ) (r : Answer) (says : said r ≡ outcome (length room) o) (leaves : left ≡ after room o) where

@@ -5,31 +5,21 @@ use mathlib.Core.Bool.{Bool, true, false, or-false}
 use mathlib.Core.List.{List, [], _∷_}
 use Prim.Native.Nat.{ℕ, zero, suc, _-_, _≤_, _<_}
 use native.Mathlib.Omega.{arith}
-use lib.Dec.{leb, leb·zero, leb·suc-zero, leb·suc-suc, eqb}
+use lib.Dec.{leb, leb·suc-zero, leb·suc-suc, eqb}
 use lib.ListN.{length, take, drop, length-drop}
 use lib.Seq.{length-take-le, take-take}
 use borrow.Author.Tests.{le-leb, ne-eqb}
 use Rattle.kinds.specs.Bytes.{ascii, all, same, isLetter, isWordByte, isWord}
 use Rattle.kinds.proofs.Logic.{both, left, right, all-weaken, letter-word}
-use Rattle.model.specs.Text.{spanFrom, span, one, wordLength}
+use Rattle.model.specs.Text.{span, one, wordLength}
 use Rattle.model.proofs.Scans.{part-rest, span-le}
 use Rattle.text.specs.Found.{isAlphabetic}
-use Rattle.text.proofs.Eights.{alphabetic}
+use Rattle.text.proofs.Eights.{span-front, alphabetic}
 use Rattle.model.specs.declared.Sort.{Sort}
 use Rattle.model.specs.declared.Sort.the-variants.{Plain, Parameter, Event}
 use Rattle.model.specs.Record.{isFieldName, isMark}
 
--- the first n items are all that pass, where the scan goes that far
-span-front : (p : ℕ → Bool) (n : ℕ) (t : List ℕ) → n ≤ length t → leb n (span (one p) t) ≡ all p (take n t)
-unfolding spanFrom
-span-front p zero t h = leb·zero (span (one p) t)
-span-front p (suc n) [] h = absurd (omega arith)
-span-front p (suc n) (c ∷ t) h = go (p c) refl (span-front p n t (omega arith))
-  where
-    go : (b : Bool) → p c ≡ b → leb n (span (one p) t) ≡ all p (take n t) → leb (suc n) (span (one p) (c ∷ t)) ≡ all p (take (suc n) (c ∷ t))
-    go true e i = rw (spanFrom, e, leb·suc-suc n (span (one p) t)) i
-    go false e i = rw (spanFrom, e, leb·suc-zero n)
-
+-- the word that bytes begin with has at least n bytes exactly when the first n are a word
 word-front : (n : ℕ) (t : List ℕ) → 0 < n → n ≤ length t → leb n (wordLength t) ≡ isWord (take n t)
 unfolding wordLength
 word-front zero t k h = absurd (omega arith)

@@ -6,16 +6,17 @@ use mathlib.Core.List.{List, [], _∷_, map}
 use Prim.Native.Nat.{ℕ, zero, suc, _+_, _*_, _-_, _/_, _%_, _^_, _≤_, _<_}
 use native.Mathlib.Omega.{arith}
 use native.Mathlib.Decide.{decLt}
-use lib.Dec.{leb, ltb, eqb}
+use lib.Dec.{leb, leb·zero, leb·suc-zero, leb·suc-suc, ltb, eqb}
 use lib.Count.{trailingZeros}
 use lib.ListN.{length, take, drop, getD, length-drop}
 use lib.Seq.{length-take-le}
 use lib.Bits.{bitAnd, bitOr, and-block, or-block}
-use borrow.Author.Tests.{leb-true, ltb-true, eqb-true}
+use borrow.Author.Tests.{le-leb, leb-true, ltb-true, eqb-true}
 use Rattle.kinds.specs.Bytes.{all, between, isLetter}
-use Rattle.kinds.proofs.Logic.{both, left, right, all-weaken}
+use Rattle.kinds.proofs.Logic.{left, right, all-weaken}
 use Rattle.model.specs.Layout.{littleEndian, leValue}
 use Rattle.model.specs.Text.{spanFrom, span, one}
+use Rattle.model.proofs.Scans.{span-le}
 use Rattle.model.proofs.Pieces.{Bytes, bytes-take, bytes-drop, le-length, le-bytes, le-read, le-written}
 use Rattle.text.specs.Found.{isAlphabetic, isPlain, flag, flags}
 
@@ -247,14 +248,19 @@ module _ (p : ℕ → Bool) where
           let e : leading (c ∷ t) ≡ 0 = count 128 (flag-by c false q) ∙ omega (arith, byte-set (bits (length t)) (flags p t)) in
           e ∙ rw (spanFrom, q)
 
-  pub span-all : (t : List ℕ) → all p (take (span (one p) t) t) ≡ true
+  -- they reach at least n bytes exactly when the first n are of the class
+  pub span-front : (n : ℕ) (t : List ℕ) → n ≤ length t → leb n (span (one p) t) ≡ all p (take n t)
   unfolding spanFrom
-  span-all [] = refl
-  span-all (c ∷ t) = go (p c) refl (span-all t)
+  span-front zero t h = leb·zero (span (one p) t)
+  span-front (suc n) [] h = absurd (omega arith)
+  span-front (suc n) (c ∷ t) h = go (p c) refl (span-front n t (omega arith))
     where
-      go : (b : Bool) → p c ≡ b → all p (take (span (one p) t) t) ≡ true → all p (take (span (one p) (c ∷ t)) (c ∷ t)) ≡ true
-      go true q h = rw (spanFrom, q) (both q h)
-      go false q h = rw (spanFrom, q)
+      go : (b : Bool) → p c ≡ b → leb n (span (one p) t) ≡ all p (take n t) → leb (suc n) (span (one p) (c ∷ t)) ≡ all p (take (suc n) (c ∷ t))
+      go true e i = rw (spanFrom, e, leb·suc-suc n (span (one p) t)) i
+      go false e i = rw (spanFrom, e, leb·suc-zero n)
+
+  pub span-all : (t : List ℕ) → all p (take (span (one p) t) t) ≡ true
+  span-all t = sym (span-front (span (one p) t) t (span-le (one p) t)) ∙ le-leb (span (one p) t) (span (one p) t) (omega arith)
 
   -- how many of eight bytes of a part come first, where c comes of the zeros of their flags f
   module _ (t : List ℕ) (at v f c : ℕ) where
