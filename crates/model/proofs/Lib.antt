@@ -17,4 +17,5 @@ pub mod Spelling
 pub mod Loose
 pub mod Lengths
 pub mod Lines
+pub mod Messages
 pub mod Demand
