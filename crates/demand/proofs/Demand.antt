@@ -17,17 +17,16 @@ use Rattle.model.specs.declared.Call.{Call}
 use Rattle.model.specs.declared.Call.the-variants as call
 use Rattle.model.specs.declared.Answer.{Answer}
 use Rattle.model.specs.Tree.{Declaration, nameKinds}
-use Rattle.model.specs.Parser.{Ans, got, bad, deep}
+use Rattle.model.specs.Parser.{got}
 use Rattle.model.specs.Reading.{longestText, parse}
-use Rattle.model.specs.Record.{encode, decode, longestRecord, wellFormed}
+use Rattle.model.specs.Record.{encode, decode, wellFormed}
 use Rattle.model.specs.Line.{keywordIn, canonicalText, line}
-use Rattle.model.specs.Answer.{accepted, refused, Output, writes, said, outcome, after, handed, refusalNumber}
-use Rattle.model.specs.Calls.{written, readOutput, canonicalOutput, AllAccepted}
+use Rattle.model.specs.Answer.{accepted, refused, Output, writes, needed, said, outcome, after, handed, refusalNumber}
+use Rattle.model.specs.Calls.{written, readOutput, canonicalOutput, AcceptedAs, AllAccepted}
 use Rattle.model.specs.Calls as calls
 use Rattle.model.proofs.Pieces.{Bytes}
 use Rattle.model.proofs.Records.{decode-exactly, encode-bytes}
-use Rattle.model.proofs.Lengths.{refuses-not}
-use Rattle.model.proofs.Sound.{read-well-formed, record-small}
+use Rattle.model.proofs.Sound.{read-well-formed}
 use Rattle.model.proofs.Demand.{joined-texts, line-back}
 use Rattle.demand.specs.Runs.{ReadRun, CanonicalRun, LineOf, LinesOf, no-text, one-text, endToEnd, lineText, ReadBack}
 
@@ -54,16 +53,6 @@ module _ (o : Output) (u : List ℕ) (e : o ≡ writes u) (room left : List ℕ)
   enough : length u ≤ length room → said r ≡ accepted (length u)
   unfolding outcome
   enough h = rw (e, outcome, le-ltb (length room) (length u) h) at says
-
--- what is written of a text was read of it
-read-writes : (c : Call) (s u : List ℕ) → readOutput c s ≡ writes u → (d : Declaration) × (n : ℕ) × (parse c s ≡ got d n) × (u ≡ encode 4 d)
-unfolding readOutput written
-read-writes c s u e = go (parse c s) refl e
-  where
-    go : (a : Ans Declaration) → parse c s ≡ a → written (encode 4) a ≡ writes u → (d : Declaration) × (n : ℕ) × (parse c s ≡ got d n) × (u ≡ encode 4 d)
-    go (got d n) f g = (d, n, f, cc)
-    go (bad w p) f g = absurd (refuses-not g)
-    go (deep p) f g = absurd (refuses-not g)
 
 -- the record that is written of an accepted text has this line
 line-of : (c : Call) (s : List ℕ) (d : Declaration) (n : ℕ) (p : Prototype) → parse c s ≡ got d n → nameKinds d ≡ some p → canonicalOutput (encode 4 d) ≡ writes (canonical p)
@@ -92,15 +81,68 @@ unfolding endToEnd joined
 all-lines no-text = refl
 all-lines (one-text f r) = ap₂ _++_ (line-written f) (all-lines r)
 
--- T3: "Joined canonical texts are equal bytes exactly when the lists they come from agree in length, and place by place in name and kinds"
+-- T3: "The joined bytes are equal exactly when the lists are equally long and agree place by place in name and kinds."
 pub joined-lines : {ss ts ls ms : List (List ℕ)} {ps qs : List Prototype} → LinesOf ss ps ls → LinesOf ts qs ms → (endToEnd ls ≡ endToEnd ms) ↔ Agree ps qs
 joined-lines a b =
     let (to, from) = joined-texts (all-accepted a) (all-accepted b) in
     (λ e. to (sym (all-lines a) ∙ e ∙ all-lines b), λ g. all-lines a ∙ from g ∙ sym (all-lines b))
 
--- T4: "for every well-formed function, event or error record, keyword, one space and canonical text, if at most 4,096 bytes, are accepted by the
--- general call, with the same name, kinds and line". The bytes b are the record, of which the canonical call wrote the line; the general call is
--- lent 40,960 bytes
+-- every accepted text has a line: the call that reads it, lent enough, accepts it, and the canonical call, lent enough, writes of that record the
+-- canonical text of its name and kinds
+module _ (s : List ℕ) (p : Prototype) (a : AcceptedAs s p) (room left : List ℕ) (r : Answer)
+    (lent : needed (readOutput (a .call) s) ≤ length room) (run : ReadRun (a .call) s room left r) where
+  what-is-read : readOutput (a .call) s ≡ writes (encode 4 (a .declaration))
+  unfolding readOutput written
+  what-is-read = rw (readOutput, a .reads)
+
+  pub text-accepted : said r ≡ accepted (needed (readOutput (a .call) s))
+  unfolding needed
+  text-accepted =
+      rw (what-is-read, needed)
+      (enough (readOutput (a .call) s) (encode 4 (a .declaration)) what-is-read room left r (run .says) (run .leaves) (rw (what-is-read, needed) at lent))
+
+  -- the record that is written
+  record-written : take (needed (readOutput (a .call) s)) left ≡ encode 4 (a .declaration)
+  unfolding needed
+  record-written = ran (readOutput (a .call) s) (encode 4 (a .declaration)) what-is-read room left r (run .says) (run .leaves) (needed (readOutput (a .call) s)) text-accepted .1
+
+  pub text-lined : (line-room line-left : List ℕ) (line-answer : Answer) → needed (canonicalOutput (take (needed (readOutput (a .call) s)) left)) ≤ length line-room
+      → CanonicalRun (take (needed (readOutput (a .call) s)) left) line-room line-left line-answer → LineOf s p (canonical p)
+  unfolding needed
+  text-lined line-room line-left line-answer h writing =
+      let out : canonicalOutput (take (needed (readOutput (a .call) s)) left) ≡ writes (canonical p)
+      = ap canonicalOutput record-written ∙ line-of (a .call) s (a .declaration) (a .place) p (a .reads) (a .says) in
+      let o : Output = canonicalOutput (take (needed (readOutput (a .call) s)) left) in
+      let said-so : said line-answer ≡ accepted (length (canonical p)) = enough o (canonical p) out line-room line-left line-answer (writing .says) (writing .leaves) (rw (out, needed) at h) in
+      record {
+        reads = a;
+        room = room;
+        left = left;
+        answer = r;
+        n = needed (readOutput (a .call) s);
+        reading = run;
+        read = text-accepted;
+        line-room = line-room;
+        line-left = line-left;
+        line-answer = line-answer;
+        m = length (canonical p);
+        writing = writing;
+        written = said-so;
+        line = sym (ran o (canonical p) out line-room line-left line-answer (writing .says) (writing .leaves) (length (canonical p)) said-so .1);
+      }
+
+-- and so has every well-formed function, event or error record
+pub record-lined : (b : List ℕ) (d : Declaration) (p : Prototype) → decode b ≡ some d → nameKinds d ≡ some p → (room left : List ℕ) (r : Answer) → needed (canonicalOutput b) ≤ length room
+    → CanonicalRun b room left r → (said r ≡ accepted (length (canonical p))) × (take (length (canonical p)) left ≡ canonical p)
+unfolding canonicalOutput canonicalText needed
+record-lined b d p says same room left r h run =
+    let out : canonicalOutput b ≡ writes (canonical p) = rw (canonicalOutput, says, canonicalText, same) in
+    let e = enough (canonicalOutput b) (canonical p) out room left r (run .says) (run .leaves) (rw (out, needed) at h) in
+    (e, ran (canonicalOutput b) (canonical p) out room left r (run .says) (run .leaves) (length (canonical p)) e .1)
+
+-- T4: "Its keyword, one space and its canonical text, if together at most 4,096 bytes, are accepted by the general call, given room for the record
+-- that it writes. That record has the same name, kinds and canonical text." The bytes b are a "well-formed function, event or error record", of
+-- which the canonical call wrote the line
 module _ (b : List ℕ) (d : Declaration) (p : Prototype) (bytes : Bytes b) (says : decode b ≡ some d) (same : nameKinds d ≡ some p)
     (room left : List ℕ) (r : Answer) (m : ℕ) (run : CanonicalRun b room left r) (wrote : said r ≡ accepted m) where
   line-is : take m left ≡ canonical p
@@ -111,15 +153,14 @@ module _ (b : List ℕ) (d : Declaration) (p : Prototype) (bytes : Bytes b) (say
   unfolding lineText line
   text-is = rw line-is
 
-  pub line-reads-back : length (lineText (keywordIn d) (take m left)) ≤ longestText → (room₁ left₁ : List ℕ) (r₁ : Answer) → longestRecord ≤ length room₁
+  pub line-reads-back : length (lineText (keywordIn d) (take m left)) ≤ longestText → (room₁ left₁ : List ℕ) (r₁ : Answer) → needed (readOutput call.General (lineText (keywordIn d) (take m left))) ≤ length room₁
       → ReadRun call.General (lineText (keywordIn d) (take m left)) room₁ left₁ r₁ → ReadBack (keywordIn d) p (take m left) left₁ r₁
-  unfolding handed refusalNumber
+  unfolding handed refusalNumber needed
   line-reads-back h room₁ left₁ r₁ k run₁ =
       let (c, out, s) = line-back b d p bytes says same (rw text-is at h) in
-      let (x, _, reads, u) = read-writes call.General (line (keywordIn d) p) c out in
-      let small : length c ≤ longestRecord = omega (arith, ap length u, record-small call.General (line (keywordIn d) p) x _ reads, rw text-is at h) in
       let here : readOutput call.General (lineText (keywordIn d) (take m left)) ≡ writes c = ap (readOutput call.General) text-is ∙ out in
       let o : Output = readOutput call.General (lineText (keywordIn d) (take m left)) in
+      let fits : length c ≤ length room₁ = rw (here, needed) at k in
       let (_, there) = ran o c here room₁ left₁ r₁ (run₁ .says) (run₁ .leaves) (length c) (enough o c here room₁ left₁ r₁ (run₁ .says) (run₁ .leaves) (omega arith)) in
       record {
         n = length c;

@@ -56,17 +56,17 @@ pub data LinesOf : List (List ℕ) → List Prototype → List (List ℕ) → Ty
   no-text : LinesOf [] [] []
   one-text : {s l : List ℕ} {p : Prototype} {ss ls : List (List ℕ)} {ps : List Prototype} → LineOf s p l → LinesOf ss ps ls → LinesOf (s ∷ ss) (p ∷ ps) (l ∷ ls)
 
--- lines "joined": end to end, with nothing between
+-- "Join each list's canonical texts end to end, without separators."
 unfoldable pub endToEnd : List (List ℕ) → List ℕ
 endToEnd [] = []
 endToEnd (l ∷ ls) = l ++ endToEnd ls
 
--- "keyword, one space and canonical text"
+-- "Its keyword, one space and its canonical text"
 unfoldable pub lineText : Keyword → List ℕ → List ℕ
 lineText k l = keywordText k ++ (space ∷ l)
 
--- a run that read a line: "accepted by the general call, with the same name, kinds and line". The record says the same keyword, name and kinds, the
--- name call hands that name back, and the canonical call, lent enough, writes that line
+-- a run that read a line: "That record has the same name, kinds and canonical text." It says the same keyword too, the name call hands that name
+-- back, and the canonical call, lent enough, writes that line
 pub record ReadBack (k : Keyword) (p : Prototype) (line left : List ℕ) (r : Answer) : Type 0 where
   pub n : ℕ
   pub read : said r ≡ accepted n
