@@ -38,7 +38,7 @@ unfolding decimal digits
 decimal-more n h = rw (le-ltb n 10 h, digits, digits-enough n (suc (n / 10)) (n / 10) (omega arith) (omega arith))
 
 -- what holds of a digit by itself, and of a number where it holds of the number without its last digit, holds of every number
-pub by-digits : (P : ℕ → Type 0) → ((n : ℕ) → n < 10 → P n) → ((n : ℕ) → 10 ≤ n → P (n / 10) → P n) → (n : ℕ) → P n
+by-digits : (P : ℕ → Type 0) → ((n : ℕ) → n < 10 → P n) → ((n : ℕ) → 10 ≤ n → P (n / 10) → P n) → (n : ℕ) → P n
 by-digits P one more n = go (suc n) n (omega arith)
   where
     go : (f k : ℕ) → k < f → P k
@@ -98,7 +98,7 @@ decimal-unsigned n =
     let (c, s, e) = decimal-cons n in
     cc (e, unsigned-digits c s (rw e at (decimal-digits n)), decimal-value n)
 
-pub digits-no-plus : (t : List ℕ) → all isDigit t ≡ true → afterPlus t ≡ t
+digits-no-plus : (t : List ℕ) → all isDigit t ≡ true → afterPlus t ≡ t
 digits-no-plus [] h = refl
 digits-no-plus (c ∷ s) h =
     let low : 48 ≤ c = leb-true 48 c (left _ (left _ h)) in
@@ -113,7 +113,7 @@ under-limit m (some k) n e = go (leb k m) refl
     go true l = let q : k ≡ n = cc in omega (arith, leb-true k m l)
     go false l = let z : _≡_ {A = ℕ} 0 1 = cc in omega arith
 
-pub plain-bound : (m : ℕ) (t : List ℕ) (n : ℕ) → plain m t ≡ some n → n ≤ m
+plain-bound : (m : ℕ) (t : List ℕ) (n : ℕ) → plain m t ≡ some n → n ≤ m
 unfolding plain
 plain-bound m t = under-limit m (unsigned t)
 

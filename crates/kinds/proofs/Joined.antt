@@ -28,7 +28,7 @@ elementary-read function = refl
 elementary-read bytes = refl
 elementary-read string = refl
 
-pub elementary-word : (e : Elementary) → all isWordByte (elementaryText e) ≡ true
+elementary-word : (e : Elementary) → all isWordByte (elementaryText e) ≡ true
 unfolding elementaryText
 elementary-word (int (bits m)) = decimal-word m
 elementary-word (uint (bits m)) = decimal-word m
@@ -157,7 +157,7 @@ joined-read (p ∷ ps) done h =
 pub apart : List ℕ → List Prototype
 apart t = found (feed (inName [] []) t)
 
-pub apart-joined : (ps : List Prototype) → named ps ≡ true → apart (joined ps) ≡ ps
+apart-joined : (ps : List Prototype) → named ps ≡ true → apart (joined ps) ≡ ps
 unfolding apart found
 apart-joined ps h = ap found (joined-read ps [] h)
 

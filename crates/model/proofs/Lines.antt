@@ -118,7 +118,7 @@ line-ascii k p h =
     (both (word-ascii (keywordText k) (keyword-word k)) (both (word-ascii (p .name) h) (list-ascii (p .kinds) t (list-itself (p .kinds)))))
 
 -- the general call reads a line with this keyword, name and kinds
-abbrev pub LineReads : Keyword → Prototype → Type 0
+abbrev LineReads : Keyword → Prototype → Type 0
 LineReads k p = (e : Declaration) × (n : ℕ) × (parse call.General (line k p) ≡ got e n) × (nameKinds e ≡ some p) × (keywordIn e ≡ k)
 
 module _ (k : Keyword) (p : Prototype) (f : Readable p) (short : length (line k p) ≤ longestText) (e : Declaration) where

@@ -81,7 +81,7 @@ reads-mark sort k m nm r h n q i = go (eqb m indexed) refl
     go false f = rw (mark-zero sort m nm h f) (option-absent (marks sort k) unmarked nm r n (end-quiet r i) (absent-none _ (rw f at q)))
 
 -- names that are no mark words: in a list without marks all, and in an event's all that are well formed
-pub plain-named : (fs : Fields) → areNamed Plain fs ≡ true
+plain-named : (fs : Fields) → areNamed Plain fs ≡ true
 unfolding areNamed isNamed marks
 plain-named noField = refl
 plain-named (moreFields (field m nm b ss) fs) = both (or-true (eqb m indexed)) (plain-named fs)

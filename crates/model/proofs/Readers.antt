@@ -39,7 +39,7 @@ span-all p (c ∷ t) = go (p c) refl (span-all p t)
     go true e h = rw (spanFrom, one, e) (both e h)
     go false e h = rw (spanFrom, one, e) refl
 
-pub word-le : (t : List ℕ) → wordLength t ≤ length t
+word-le : (t : List ℕ) → wordLength t ≤ length t
 unfolding wordLength
 word-le [] = omega arith
 word-le (c ∷ t) = tested (λ n. n ≤ suc (length t)) (isLetter c) (λ e. omega (arith, span-le (one isWordByte) t)) (λ e. omega arith)
@@ -50,37 +50,37 @@ word-named [] = refl
 word-named (c ∷ t) = tested (λ n. isFieldName (take n (c ∷ t)) ≡ true) (isLetter c) (λ e. both e (span-all isWordByte t)) (λ e. refl)
 
 -- what stands for a name is a word, or nothing
-pub word-is-name : (s : List ℕ) (at : ℕ) → isFieldName (word s at) ≡ true
+word-is-name : (s : List ℕ) (at : ℕ) → isFieldName (word s at) ≡ true
 unfolding word
 word-is-name s at = word-named (drop (skip s at) s)
 
 -- a word lies between the place where it is looked for and its end
-pub word-places : (s : List ℕ) (at : ℕ) → at ≤ length s → (at + length (word s at) ≤ wordEnd s at) × (wordEnd s at ≤ length s)
+word-places : (s : List ℕ) (at : ℕ) → at ≤ length s → (at + length (word s at) ≤ wordEnd s at) × (wordEnd s at ≤ length s)
 unfolding word wordEnd
 word-places s at h =
     let p = skip s at in
     let k = word-le (drop p s) in
     omega (arith, skip-le s at, skip-within s at h, length-take-le (wordLength (drop p s)) (drop p s) k, length-drop p s)
 
-pub run-le : (t : List ℕ) → runLength t ≤ length t
+run-le : (t : List ℕ) → runLength t ≤ length t
 unfolding runLength
 run-le t = span-le runByte t
 
 -- Characters and words.
 
 module _ (s : List ℕ) where
-  pub look-of : (c at : ℕ) → c < 256 → at ≤ length s → Finds (OneChar s at) (look c s at)
+  look-of : (c at : ℕ) → c < 256 → at ≤ length s → Finds (OneChar s at) (look c s at)
   unfolding look
   look-of c at b h =
       tested (Finds (OneChar s at)) (eqb (peek s (skip s at)) c)
       (λ e. let k = peek-inside s (skip s at) c (eqb-true _ _ e) b in finds tt (omega (arith, skip-le s at)) (omega arith))
       (λ e. misses tt)
 
-  pub take-char-of : (c at : ℕ) (w : Refusal) → c < 256 → at ≤ length s → Of s (OneChar s at) (takeChar c w s at)
+  take-char-of : (c at : ℕ) (w : Refusal) → c < 256 → at ≤ length s → Of s (OneChar s at) (takeChar c w s at)
   unfolding takeChar
   take-char-of c at w b h = require-of (whyNot w (peek s (skip s at))) (skip-within s at h) (look-of c at b h) (λ _ _ k. k)
 
-  pub keyword-in : {A : Type 0} (Q : List ℕ → A → Type 0) (es : List (Entry A)) (at : ℕ) → at ≤ length s → Entries Q es
+  keyword-in : {A : Type 0} (Q : List ℕ → A → Type 0) (es : List (Entry A)) (at : ℕ) → at ≤ length s → Entries Q es
       → Finds (Read s (λ a n. Q (word s at) a) (λ _. 10 * length (word s at)) at) (keywordOf es s at)
   unfolding keywordOf
   keyword-in {A} Q es at h q = go (lookup es (word s at)) (lookup-of Q es (word s at) q)
@@ -99,7 +99,7 @@ module _ (s : List ℕ) where
   unfolding option
   option-of P es d at h q k = or-of d at (keyword-in (λ _. P) es at h q) (λ _ _ r. read (r .holds) (omega arith) (r .within)) (λ _. read k (omega arith) h)
 
-  pub look-ident-of : (at : ℕ) → at ≤ length s → Seen (Read s (λ nm _. (nm ≡ word s at) × (isWord nm ≡ true)) length at) (word s at ≡ []) (lookIdent s at)
+  look-ident-of : (at : ℕ) → at ≤ length s → Seen (Read s (λ nm _. (nm ≡ word s at) × (isWord nm ≡ true)) length at) (word s at ≡ []) (lookIdent s at)
   unfolding lookIdent
   look-ident-of at h = go (word s at) refl
     where
@@ -126,14 +126,14 @@ module _ (s : List ℕ) where
 
 -- Kinds and their suffixes.
 
-abbrev pub OneSuffix : List ℕ → ℕ → Suffix → ℕ → Type 0
+abbrev OneSuffix : List ℕ → ℕ → Suffix → ℕ → Type 0
 OneSuffix s = Read s (λ o _. isSuffix o ≡ true) (λ o. length (encodeSuffix 4 o))
 
 abbrev pub Suffixes : List ℕ → ℕ → List Suffix → ℕ → Type 0
 Suffixes s = Read s (λ ss _. all isSuffix ss ≡ true) (λ ss. length (encodeSuffixes 4 ss))
 
 -- a field's kind, in which d tuples may nest, with the 14 bytes that a field of it has besides
-abbrev pub OneKind : List ℕ → ℕ → ℕ → FieldKind → ℕ → Type 0
+abbrev OneKind : List ℕ → ℕ → ℕ → FieldKind → ℕ → Type 0
 OneKind s d = Read s (λ k _. (isBase d (k .base) && all isSuffix (k .suffixes)) ≡ true) (λ k. 14 + length (encodeBase 4 (k .base)) + length (encodeSuffixes 4 (k .suffixes)))
 
 module _ (s : List ℕ) where
@@ -150,7 +150,7 @@ module _ (s : List ℕ) where
           gives (both (q .valid) (q .lengths)) (omega (arith, length-take-le n (drop at s) l)) (omega (arith, l, length-drop at s))
       go (err w) q = refuses h
 
-  pub array-suffix-of : (at : ℕ) → at ≤ length s → Finds (OneSuffix s at) (arraySuffix s at)
+  array-suffix-of : (at : ℕ) → at ≤ length s → Finds (OneSuffix s at) (arraySuffix s at)
   unfolding arraySuffix
   array-suffix-of at h = go (look-of s lbracket at (lit< tt) h)
     where
@@ -177,16 +177,16 @@ module _ (s : List ℕ) where
       go (sees {a = o} {n = n} q) ih =
           on-of (λ ss. o ∷ ss) (ih n (q .within)) (λ ss m r. read (both (q .holds) (r .holds)) (simp length-append (omega arith)) (r .within))
 
-  pub suffixes-of : (at : ℕ) → at ≤ length s → Of s (Suffixes s at) (suffixes s at)
+  suffixes-of : (at : ℕ) → at ≤ length s → Of s (Suffixes s at) (suffixes s at)
   unfolding suffixes
   suffixes-of at h = suffixes-in (length s) at h
 
 -- Fields and lists.
 
-abbrev pub OneField : List ℕ → Sort → ℕ → ℕ → Field → ℕ → Type 0
+abbrev OneField : List ℕ → Sort → ℕ → ℕ → Field → ℕ → Type 0
 OneField s sort d = Read s (λ f _. isField sort d f ≡ true) (λ f. length (encodeField 4 f))
 
-pub field-further : {s : List ℕ} {P : Field → ℕ → Type 0} {at n : ℕ} (f : Field) → Read s P (λ g. length (encodeField 4 g)) at f n → at < n
+field-further : {s : List ℕ} {P : Field → ℕ → Type 0} {at n : ℕ} (f : Field) → Read s P (λ g. length (encodeField 4 g)) at f n → at < n
 field-further (field m nm b ss) q = omega (arith, field-size m nm b ss)
 
 -- the fields of a list, with its `)`
@@ -194,7 +194,7 @@ abbrev pub Listed : List ℕ → Sort → ℕ → ℕ → Fields → ℕ → Typ
 Listed s sort d = Read s (λ fs _. areFields sort d fs ≡ true) (λ fs. 10 + length (encodeFields 4 fs))
 
 module _ (s : List ℕ) where
-  pub field-kind-of : (T : Parser FieldKind) (d at : ℕ) → ((p : ℕ) → p < length s → Of s (OneKind s d p) (T s p)) → at ≤ length s → Of s (OneKind s d at) (fieldKind T s at)
+  field-kind-of : (T : Parser FieldKind) (d at : ℕ) → ((p : ℕ) → p < length s → Of s (OneKind s d p) (T s p)) → at ≤ length s → Of s (OneKind s d at) (fieldKind T s at)
   unfolding fieldKind
   field-kind-of T d at t h = let p = skip s at in
       as-of
@@ -202,7 +202,7 @@ module _ (s : List ℕ) where
       (λ k n q. read (q .holds) (omega (arith, skip-le s at)) (q .within))
 
   -- the mark suits the word behind it: `indexed` is no name where it is a mark
-  pub mark-of : (sort : Sort) (k : FieldKind) (at : ℕ) → at ≤ length s → Of s (Read s (λ m n. isMark sort m (word s n) ≡ true) (λ _. 0) at) (option (marks sort k) unmarked s at)
+  mark-of : (sort : Sort) (k : FieldKind) (at : ℕ) → at ≤ length s → Of s (Read s (λ m n. isMark sort m (word s n) ≡ true) (λ _. 0) at) (option (marks sort k) unmarked s at)
   unfolding marks isMark option keywordOf
   mark-of Plain k at h = option-of s (λ m. eqb m unmarked ≡ true) [] unmarked at h tt refl
   mark-of Parameter k at h =
@@ -214,7 +214,7 @@ module _ (s : List ℕ) where
       (λ e. gives refl (omega arith) (w .1))
       (λ e. gives (ap not e) (omega arith) h)
 
-  pub field-of : (sort : Sort) (T : Parser FieldKind) (d at : ℕ) → ((p : ℕ) → p < length s → Of s (OneKind s d p) (T s p)) → at ≤ length s → Of s (OneField s sort d at) (fieldBy sort T s at)
+  field-of : (sort : Sort) (T : Parser FieldKind) (d at : ℕ) → ((p : ℕ) → p < length s → Of s (OneKind s d p) (T s p)) → at ≤ length s → Of s (OneField s sort d at) (fieldBy sort T s at)
   unfolding fieldBy isField
   field-of sort T d at t h =
       then-of (field-kind-of T d at t h) (λ k n q.
@@ -222,7 +222,7 @@ module _ (s : List ℕ) where
       then-of (name-of s n₁ (r .within)) (λ nm n₂ u.
       gives (both (rw (← (u .holds)) at (r .holds)) (both (rw (← (u .holds)) at (word-is-name s n₁)) (q .holds))) (omega (arith, field-size m nm (k .base) (k .suffixes))) (u .within))))
 
-  pub closing-of : (sort : Sort) (d at : ℕ) → at ≤ length s → Of s (Listed s sort d at) (closing s at)
+  closing-of : (sort : Sort) (d at : ℕ) → at ≤ length s → Of s (Listed s sort d at) (closing s at)
   unfolding closing areFields encodeFields
   closing-of sort d at h = on-of (λ _. noField) (take-char-of s rparen at ExpectClose (lit< tt) h) (λ _ n k. read refl (omega arith) (k .within))
 
@@ -235,7 +235,7 @@ module _ (s : List ℕ) (sort : Sort) (d : ℕ) (F : Parser Field) (f : (at : �
   follow-of R at h l k (refuses q) = closing-of s sort d at h
   follow-of R at h l k (opens q) = opens q
 
-  pub rest-of : (k at : ℕ) → at ≤ length s → Of s (Listed s sort d at) (rest F k s at)
+  rest-of : (k at : ℕ) → at ≤ length s → Of s (Listed s sort d at) (rest F k s at)
   unfolding rest
   rest-of zero at h = closing-of s sort d at h
   rest-of (suc k) at h = go (look-of s comma at (lit< tt) h) (rest-of k)
@@ -244,12 +244,12 @@ module _ (s : List ℕ) (sort : Sort) (d : ℕ) (F : Parser Field) (f : (at : �
       go (misses q) ih = closing-of s sort d at h
       go (sees {n = n} q) ih = follow-of (rest F k s) at h (omega arith) ih (f n (q .within))
 
-  pub list-of : (at : ℕ) → at ≤ length s → Of s (Listed s sort d at) (list F s at)
+  list-of : (at : ℕ) → at ≤ length s → Of s (Listed s sort d at) (list F s at)
   unfolding list
   list-of at h = follow-of (rest F (length s) s) at h (omega arith) (rest-of (length s)) (f at h)
 
 module _ (s : List ℕ) where
-  pub tuple-kind-of : (d p : ℕ) → p < length s → Of s (OneKind s d p) (tupleKind d s p)
+  tuple-kind-of : (d p : ℕ) → p < length s → Of s (OneKind s d p) (tupleKind d s p)
   unfolding tupleKind isBase encodeBase
   tuple-kind-of zero p h = opens h
   tuple-kind-of (suc d) p h =

@@ -164,7 +164,7 @@ module _ (w : ℕ) where
   outer-reads : Reads w (baseFrom (tupleFrom w deepest)) (isBase deepest) (encodeBase w)
   outer-reads = base-reads (tupleFrom w deepest) deepest (tuple-spells deepest)
 
-  pub lone-reads : (sort : Sort) → Reads w (decodeField w sort) (isField sort deepest) (encodeField w)
+  lone-reads : (sort : Sort) → Reads w (decodeField w sort) (isField sort deepest) (encodeField w)
   unfolding decodeField
   lone-reads sort = field-reads sort deepest (baseFrom (tupleFrom w deepest)) outer-reads
 
@@ -257,7 +257,7 @@ module _ (w : ℕ) where
       let sizes = simp (record-length, length-append) at f in
       (0x23, _, lit< tt, refl, name-part .to nm _ _ g₁ (omega arith) ∙ last-to Plain ins _ g₂ (omega arith))
 
-  pub declaration-reads : Reads w (decodeDeclaration w) isDeclaration (encode w)
+  declaration-reads : Reads w (decodeDeclaration w) isDeclaration (encode w)
   unfolding decodeDeclaration
   declaration-reads = record {
     from = select-sound w isDeclaration (encode w) (case 0x20 (functionFrom w) ∷ case 0x21 (constructorFrom w) ∷ case 0x22 (eventFrom w) ∷ case 0x23 (errorFrom w) ∷ []) (function-from, (constructor-from, (event-from, (error-from, tt))));
@@ -384,7 +384,7 @@ module _ (w : ℕ) where
   unfolding encodeList
   list-bytes sort fs g = record-bytes w 0x12 _ (fields-bytes fs sort deepest g)
 
-  pub declaration-bytes : (d : Declaration) → isDeclaration d ≡ true → Bytes (encode w d)
+  declaration-bytes : (d : Declaration) → isDeclaration d ≡ true → Bytes (encode w d)
   unfolding isDeclaration encode
   declaration-bytes (Declaration.function m nm ins outs) g =
       let (g₁, i) = and-eq-true-iff (isWord nm) _ .0 (right (leb m 3) g) in
@@ -402,6 +402,6 @@ pub encode-bytes : (d : Declaration) → wellFormed d ≡ true → Bytes (encode
 unfolding wellFormed
 encode-bytes d h = declaration-bytes 4 d (left _ h)
 
-pub encode-field-bytes : (f : Field) → wellFormedField f ≡ true → Bytes (encodeField 4 f)
+encode-field-bytes : (f : Field) → wellFormedField f ≡ true → Bytes (encodeField 4 f)
 unfolding wellFormedField
 encode-field-bytes f h = field-bytes 4 f Plain deepest (left _ h)

@@ -19,7 +19,7 @@ and-both : (x y : Bool) → (x && y) ≡ true → (x ≡ true) × (y ≡ true)
 and-both x y e = (and-eq-true-iff x y) .0 e
 
 -- items reach no further than the list
-pub span-from-le : (f : List ℕ → ℕ) (k : ℕ) (t : List ℕ) → spanFrom f k t ≤ length t
+span-from-le : (f : List ℕ → ℕ) (k : ℕ) (t : List ℕ) → spanFrom f k t ≤ length t
 unfolding spanFrom
 span-from-le f k [] = zero-le
 span-from-le f zero (c ∷ t) = go (f (c ∷ t)) (λ m. span-from-le f m t)
@@ -33,7 +33,7 @@ pub span-le : (f : List ℕ → ℕ) (t : List ℕ) → span f t ≤ length t
 span-le f t = span-from-le f 0 t
 
 -- the rest of an item, and the items behind it
-pub span-from : (f : List ℕ → ℕ) (k : ℕ) (t : List ℕ) → k ≤ length t → spanFrom f k t ≡ k + span f (drop k t)
+span-from : (f : List ℕ → ℕ) (k : ℕ) (t : List ℕ) → k ≤ length t → spanFrom f k t ≡ k + span f (drop k t)
 unfolding spanFrom
 span-from f zero t h = sym (zero-add _)
 span-from f (suc k) [] h = omega arith
@@ -93,7 +93,7 @@ part-rest s at = take-all (length s - at) (drop at s) (rw length-drop (omega ari
 pub stands-past : (s : List ℕ) (at : ℕ) (u r : List ℕ) → drop at s ≡ u ++ r → drop (at + length u) s ≡ r
 stands-past s at u r e = sym (drop-drop (length u) at s) ∙ rw e (drop-append-seam u r)
 
-pub stands-inside : (s : List ℕ) (at c : ℕ) (t : List ℕ) → drop at s ≡ c ∷ t → at < length s
+stands-inside : (s : List ℕ) (at c : ℕ) (t : List ℕ) → drop at s ≡ c ∷ t → at < length s
 stands-inside s at c t e = omega (arith, length-drop at s, ap length e)
 
 -- a byte
@@ -225,7 +225,7 @@ between-both low high c e = go (leb low c) (leb c high) refl refl e
     go false y p q h = (leb-true low c (p ∙ h), leb-true c high (cc))
 
 -- bytes that are no blanks by themselves
-pub plain-byte : (c : ℕ) → 33 ≤ c → c < 128 → isBlank c ≡ false
+plain-byte : (c : ℕ) → 33 ≤ c → c < 128 → isBlank c ≡ false
 plain-byte c h k =
     rw (
       le-leb 9 c (omega arith),

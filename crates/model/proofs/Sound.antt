@@ -82,13 +82,13 @@ module _ (s : List ℕ) where
       gives (record { opening = q₀ .holds; sort = refl; valid = both (q₁ .holds) (q₂ .holds) })
       (simp (record-size, length-append) (omega arith)) (q₂ .within))))
 
-  pub parser-of : (k : Keyword) (at : ℕ) → at ≤ length s → Of s (Declared s k at) (parserOf k s at)
+  parser-of : (k : Keyword) (at : ℕ) → at ≤ length s → Of s (Declared s k at) (parserOf k s at)
   parser-of key.Function = function-of
   parser-of key.Constructor = constructor-of
   parser-of key.Event = event-of
   parser-of key.Error = error-of
 
-  pub exec-of : (k : Keyword) → Of s (Declared s k 0) (exec (parserOf k) s)
+  exec-of : (k : Keyword) → Of s (Declared s k 0) (exec (parserOf k) s)
   unfolding exec
   exec-of k =
       then-of (parser-of k 0 zero-le) (λ d n q.
@@ -229,7 +229,7 @@ arrays-kind k (o ∷ ss) = arrays-kind (Kind.array k o) ss
 mutual
   unfolding isBase baseKind isKind
 
-  pub base-is-kind : (b : Base) (d : ℕ) → isBase d b ≡ true → isKind (baseKind b) ≡ true
+  base-is-kind : (b : Base) (d : ℕ) → isBase d b ≡ true → isKind (baseKind b) ≡ true
   base-is-kind (elementary e) d h = h
   base-is-kind (tuple fs) zero h = cc
   base-is-kind (tuple fs) (suc d) h = fields-are-kinds fs Plain d h

@@ -108,7 +108,7 @@ fields-named (moreKinds k ks) sort = both (bare-named sort (baseOf k) (suffixesO
 mutual
   unfolding kindText
 
-  pub kind-itself : (k : Kind) → SpellsKind k (kindText k)
+  kind-itself : (k : Kind) → SpellsKind k (kindText k)
   kind-itself (Kind.elementary e) = itself e
   kind-itself (Kind.tuple ks) = (listText ks, refl, list-itself ks)
   kind-itself (Kind.array k s) = (kindText k, refl, kind-itself k)
@@ -186,7 +186,7 @@ lone-parts (Kind.array k s) t w h =
     let (e, u, b, p, q) = lone-parts k (w .0) (w .2) (first-part (w .0) (suffixText s) (rw (w .1) at h)) in
     (e, u, b, p, array-text k s t (w .0) u (w .1) q)
 
-pub kind-call-spelled : (k : Kind) (t : List ℕ) → SpellsKind k t → (d : ℕ) → isKind k ≡ true → fits d k ≡ true → eqb (first t) lparen ≡ false → readKind t ≡ got (fieldOf k) 0
+kind-call-spelled : (k : Kind) (t : List ℕ) → SpellsKind k t → (d : ℕ) → isKind k ≡ true → fits d k ≡ true → eqb (first t) lparen ≡ false → readKind t ≡ got (fieldOf k) 0
 unfolding readKind isBase
 kind-call-spelled k t w d h f n =
     let (e, u, b, p, q) = lone-parts k t w n in
@@ -195,7 +195,7 @@ kind-call-spelled k t w d h f n =
 
 -- spellings are ASCII
 mutual
-  pub kind-ascii : (k : Kind) (t : List ℕ) → SpellsKind k t → all isAscii t ≡ true
+  kind-ascii : (k : Kind) (t : List ℕ) → SpellsKind k t → all isAscii t ≡ true
   kind-ascii (Kind.elementary e) t w = word-ascii t (spelled-word w)
   kind-ascii (Kind.tuple ks) t w = rw (w .1) (list-ascii ks (w .0) (w .2))
   kind-ascii (Kind.array k s) t w = rw (w .1, all-append) (both (kind-ascii k (w .0) (w .2)) (suffix-ascii s))
