@@ -231,7 +231,7 @@ fn sorts() {
     row(Call::Error, b"error e(uint[2][] a)");
 }
 
-// "Errors that lie near."
+// "Errors that lie near"
 fn near() {
     row(Call::General, b"function f((uin) a)");
     row(Call::General, b"function  ");
@@ -269,7 +269,7 @@ fn nesting() {
     deep(Call::General, b"error e((bool),", b")");
 }
 
-// "a field that fails, unless by refusal 10, ends the list there": one that failed before wins, and `(` inside a run never counts.
+// "A field that fails, unless by refusal 10, ends the list there": one that failed before wins, and `(` inside a run never counts.
 fn nesting_first() {
     deep(Call::General, b"error e(uin,", b")");
     deep(Call::General, b"error e(uin", b")");

@@ -8,7 +8,7 @@ use lib.ListN.{length, getD}
 use Rattle.kinds.specs.Bytes.{isWord}
 use Rattle.kinds.specs.Kind.{noKind, Prototype, canonical}
 
--- "Joined canonical texts": end to end, with nothing between
+-- "Join each list's canonical texts end to end, without separators."
 unfoldable pub joined : List Prototype → List ℕ
 joined [] = []
 joined (p ∷ ps) = canonical p ++ joined ps
@@ -22,7 +22,7 @@ named (p ∷ ps) = isWord (p .name) && named ps
 abbrev pub nothing : Prototype
 nothing = record { name = []; kinds = noKind }
 
--- "agree in length, and place by place in name and kinds"
+-- "the lists are equally long and agree place by place in name and kinds"
 pub record Agree (xs ys : List Prototype) : Type 0 where
   pub long : length xs ≡ length ys
   pub names : (i : ℕ) → i < length xs → (getD xs i nothing) .name ≡ (getD ys i nothing) .name

@@ -1,4 +1,4 @@
--- Kinds and canonical text, from the Solidity Contract ABI Specification, sections "Types" and "Function Selector".
+-- Kinds and canonical text, from the Solidity Contract ABI Specification, sections Types and Function Selector, given without quotation marks.
 -- Document 01's kind is what the specification calls a type, and its suffix what makes a type an array.
 -- Assumes nothing.
 use mathlib.Core.Bool.{Bool, true, _&&_}
@@ -15,11 +15,11 @@ pub data BitWidth : Type 0 where
 pub data ByteLength : Type 0 where
   octets : ℕ → ByteLength
 
--- "0 < M <= 256, M % 8 == 0"
+-- section Types, of `int<M>` and `uint<M>`: 0 < M <= 256, M % 8 == 0
 abbrev pub isBitWidth : ℕ → Bool
 isBitWidth m = between 1 256 m && eqb (m % 8) 0
 
--- "0 < M <= 32"
+-- section Types, of `bytes<M>`: 0 < M <= 32
 abbrev pub isByteLength : ℕ → Bool
 isByteLength = between 1 32
 
@@ -35,7 +35,7 @@ pub data Suffix : Type 0 where
   sized : ℕ → Suffix
   unsized : Suffix
 
--- "`<type>[M]`: a fixed-length array of M elements, M >= 0", "`<type>[]`: a variable-length array", "`(T1,T2,...,Tn)`: tuple, n >= 0"
+-- section Types: `<type>[M]`, a fixed-length array of M elements, M >= 0; `<type>[]`, a variable-length array; `(T1,T2,...,Tn)`, a tuple, n >= 0
 mutual
   pub data Kind : Type 0 where
     elementary : Elementary → Kind
@@ -87,7 +87,7 @@ unfoldable mutual
   kindText (tuple ks) = lparen ∷ listText ks
   kindText (array k s) = kindText k ++ suffixText s
 
-  -- "split by a single comma - no spaces are used": the kinds of a list behind its `(`, with the `)`
+  -- section Function Selector: split by a single comma, no spaces are used. The kinds of a list behind its `(`, with the `)`
   pub listText : Kinds → List ℕ
   listText noKind = rparen ∷ []
   listText (moreKinds k ks) = kindText k ++ restText ks
@@ -97,11 +97,11 @@ unfoldable mutual
   restText noKind = rparen ∷ []
   restText (moreKinds k ks) = comma ∷ (kindText k ++ restText ks)
 
--- "the basic prototype": a name and the kinds of the inputs, which is what demand 3 compares
+-- section Function Selector, the basic prototype: a name and the kinds of the inputs, which is what demand 3 compares
 pub record Prototype : Type 0 where
   pub name : List ℕ
   pub kinds : Kinds
 
--- "the function name with the parenthesised list of parameter types"; "Name, `(`, kinds parted by `,`, `)`"
+-- section Function Selector: the function name with the parenthesised list of parameter types; document 01: "Name, `(`, kinds parted by `,`, `)`."
 unfoldable pub canonical : Prototype → List ℕ
 canonical p = p .name ++ kindText (tuple (p .kinds))

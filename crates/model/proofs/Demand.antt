@@ -34,7 +34,7 @@ pub accepted-long : {ss : List (List ℕ)} {ps : List Prototype} → AllAccepted
 accepted-long no-text = refl
 accepted-long (one-text a r) = ap suc (accepted-long r)
 
--- T3: "Joined canonical texts are equal bytes exactly when the lists they come from agree in length, and place by place in name and kinds"
+-- T3: "Take any two lists of texts .. The joined bytes are equal exactly when the lists are equally long and agree place by place in name and kinds."
 pub joined-texts : {ss ts : List (List ℕ)} {ps qs : List Prototype} → AllAccepted ss ps → AllAccepted ts qs → (joined ps ≡ joined qs) ↔ Agree ps qs
 joined-texts {ps = ps} {qs = qs} a b = joined-agree ps qs (accepted-named a) (accepted-named b)
 
@@ -46,8 +46,8 @@ name-of (Declaration.constructor m ins) p e = cc
 name-of (Declaration.event a nm ins) p e = cc
 name-of (Declaration.error nm ins) p e = cc
 
--- T4: "for every well-formed function, event or error record, keyword, one space and canonical text, if at most 4,096 bytes, are accepted by the
--- general call, with the same name, kinds and line"
+-- T4: "take any well-formed function, event or error record. Its keyword, one space and its canonical text, if together at most 4,096 bytes, are
+-- accepted by the general call, given room for the record that it writes. That record has the same name, kinds and canonical text."
 pub line-back : (b : List ℕ) (d : Declaration) (p : Prototype) → Bytes b → decode b ≡ some d → nameKinds d ≡ some p
     → length (line (keywordIn d) p) ≤ longestText
     → (c : List ℕ) × (readOutput call.General (line (keywordIn d) p) ≡ writes c) × SameLine (keywordIn d) p c

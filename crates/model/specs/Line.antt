@@ -46,6 +46,6 @@ nameOf (Declaration.error nm ins) = some nm
 unfoldable pub fieldName : Field → List ℕ
 fieldName (field m nm b ss) = nm
 
--- "keyword, one space and canonical text"
+-- "Its keyword, one space and its canonical text"
 unfoldable pub line : Keyword → Prototype → List ℕ
 line k p = keywordText k ++ (space ∷ canonical p)

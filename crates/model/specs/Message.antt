@@ -68,8 +68,8 @@ unfoldable pub context : List ℕ → ℕ → List ℕ
 context s p = let start = p - reach in
     ellipsis (eqb start 0) ++ (wholeFrom (part s start (p - start)) ++ (ascii "|" ++ (wholeTo (part s p reach) ++ ellipsis (leb (length s) (p + reach)))))
 
--- "ASCII is escaped as Rust's Debug does": "`\\0`, `\\t`, `\\n`, `\\r`, `\\"`, `\\\\`, and for other bytes below 32 and for 127 `\\u{1b}` with
--- lower-case hex, no leading zero"
+-- "ASCII is escaped as Rust's Debug does: `\0`, `\t`, `\n`, `\r`, `\"`, `\\`, and for other bytes below 32 and for 127 `\u{1b}` with lower-case
+-- hex, no leading zero."
 abbrev pub hexDigit : ℕ → ℕ
 hexDigit n = elim (ltb n 10) [ true ↦ 48 + n | false ↦ 87 + n ]
 

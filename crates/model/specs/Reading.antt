@@ -131,7 +131,7 @@ rest F (suc k) s at = restBy F (rest F k s) s at (look comma s at)
 unfoldable pub list : Parser Field → Parser Fields
 list F s at = follow (rest F (length s) s) s at (F s at)
 
--- `tuple_kind` from its `(`, where d more tuples may open: "10 the reader meets a 33rd open tuple, position its `(`"
+-- `tuple_kind` from its `(`, where d more tuples may open: "10 the reader meets a 33rd open tuple (a declaration's own list isn't one), position its `(`"
 unfoldable pub tupleKind : ℕ → Parser FieldKind
 tupleKind zero s p = deep p
 tupleKind (suc d) s p =

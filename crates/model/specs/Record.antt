@@ -41,7 +41,7 @@ module _ (w : ℕ) where
   unfoldable pub encodeName : List ℕ → List ℕ
   encodeName nm = recordOf w 0x11 nm
 
-  -- "9 tuple: field records"; "10 field: mark, 2 bytes; name; kind; suffixes, innermost first"
+  -- "9 tuple: field records"; "10 field: mark, 2 bytes (1 indexed, else 0); name; kind; suffixes, innermost first."
   unfoldable mutual
     pub encodeBase : Base → List ℕ
     encodeBase (elementary e) = encodeElementary e
@@ -58,8 +58,8 @@ module _ (w : ℕ) where
   unfoldable pub encodeList : Fields → List ℕ
   encodeList fs = recordOf w 0x12 (encodeFields fs)
 
-  -- "20 function: mutability, 2 bytes; name; inputs; outputs. 21 constructor: mutability; inputs. 22 event: anonymous, 2 bytes; name; inputs.
-  -- 23 error: name; inputs."
+  -- "20 function: mutability, 2 bytes (0 pure, 1 view, 2 none stated, 3 payable); name; inputs; outputs. 21 constructor: mutability (2 or 3);
+  -- inputs. 22 event: anonymous, 2 bytes (0 or 1); name; inputs. 23 error: name; inputs."
   unfoldable pub encode : Declaration → List ℕ
   encode (Declaration.function m nm ins outs) = recordOf w 0x20 (littleEndian 2 m ++ (encodeName nm ++ (encodeList ins ++ encodeList outs)))
   encode (Declaration.constructor m ins) = recordOf w 0x21 (littleEndian 2 m ++ encodeList ins)
@@ -101,7 +101,7 @@ unfoldable mutual
 abbrev pub areInputs : Sort → Fields → Bool
 areInputs sort fs = areFields sort deepest fs
 
--- "mutability (0 pure, 1 view, 2 none stated, 3 payable)", "constructor: mutability (2 or 3)", "anonymous (0 or 1)"
+-- "function: mutability, 2 bytes (0 pure, 1 view, 2 none stated, 3 payable)", "constructor: mutability (2 or 3)", "event: anonymous, 2 bytes (0 or 1)"
 unfoldable pub isDeclaration : Declaration → Bool
 isDeclaration (Declaration.function m nm ins outs) = leb m 3 && (isWord nm && (areInputs Parameter ins && areInputs Parameter outs))
 isDeclaration (Declaration.constructor m ins) = between 2 3 m && areInputs Parameter ins

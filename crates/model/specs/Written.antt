@@ -61,7 +61,7 @@ unfoldable pub areNamed : Sort → Fields → Bool
 areNamed sort noField = true
 areNamed sort (moreFields f fs) = isNamed sort f && areNamed sort fs
 
--- "`uint`, `int`: synonyms for `uint256`, `int256` respectively"; all else as canonical text has it
+-- the ABI Specification, section Types: `uint`, `int` are synonyms for `uint256`, `int256`; all else as canonical text has it
 pub data SpellsElementary : Elementary → List ℕ → Type 0 where
   itself : (e : Elementary) → SpellsElementary e (elementaryText e)
   shortInt : SpellsElementary (int (bits 256)) (ascii "int")

@@ -414,7 +414,7 @@ fn missing() -> Measured
     }
 }
 
-// "function: mutability, 2 bytes; name; inputs; outputs"
+// "function: mutability, 2 bytes (0 pure, 1 view, 2 none stated, 3 payable); name; inputs; outputs"
 fn function(b: &[u8]) -> Checked
     requires { ⌜ 6 ≤ length (now b) ⌝ }
     ensures { λ r. ⌜ Says (now (b .entry)) (functionFrom 4 (drop 6 (now (b .entry)))) none r ⌝ }
