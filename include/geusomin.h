@@ -1,17 +1,20 @@
 /*
- * Geusomin: a proved reader of Solidity declarations, for C.
+ * Geusomin: a proved reader of Solidity declarations, for C and C++. The library is built for x86-64.
  *
- * Every call reads the bytes that its first pointer and length lend, and writes into the room bytes that its second
- * pointer lends. It returns 0 on acceptance, and *value is then the length of what it wrote: that many first bytes of
- * the buffer are new, and the later ones are as they were. Otherwise it returns the number of a refusal, *value is its
- * position, and the whole buffer is as it was.
+ * A call reads the bytes that its first pointer and length lend, and writes into the `room` bytes that its second pointer
+ * lends. It returns 0 on acceptance, and *value is then the length of what it wrote: that many first bytes of the buffer
+ * are new, and the later ones are as they were. Otherwise it returns the number of a refusal, *value is its position, and
+ * the whole buffer is as it was.
+ *
+ * Positions are byte offsets from 0 in the text that was lent. Nothing is terminated by a zero, neither what is lent nor
+ * what is written: texts, records, lines, names and messages are bytes with a length, and a zero is a byte like others.
  *
  * The caller sees to it that
  *   - each pointer may be read, or written, over its whole length,
  *   - what is lent to one call does not overlap: neither input and buffer, nor either of them and *value,
  *   - no pointer is null, not even one whose length is 0.
  * Beyond that, any bytes and any lengths have an answer. No call allocates or keeps anything, so threads may call at the
- * same time, each with buffers of its own.
+ * same time, each with buffers of its own. As built on x86-64, no call takes 64 KB of stack in all.
  */
 #ifndef GEUSOMIN_H
 #define GEUSOMIN_H
@@ -23,19 +26,23 @@
 extern "C" {
 #endif
 
-/* A text is refused if it is longer than this, and no record is longer than that. Records of at most
-   10 * text_len bytes are written, so a buffer of GEUSOMIN_RECORD_MAX bytes is room enough for every text. */
+#define GEUSOMIN_VERSION "0.2.0"
+
+/* A text of more than GEUSOMIN_TEXT_MAX bytes is refused with 8. A record of more than GEUSOMIN_RECORD_MAX bytes is not
+   well formed, and a reading call writes at most 10 bytes for each byte of its text, so a buffer of GEUSOMIN_RECORD_MAX
+   bytes is room enough for the record of every text. */
 #define GEUSOMIN_TEXT_MAX 4096
 #define GEUSOMIN_RECORD_MAX 40960
 
-/* No line that is written of a record is twice as long as the record, so a buffer of GEUSOMIN_LINE_MAX bytes is room
-   enough for every record. */
+/* What a call on records writes is less than twice as long as the record, so a buffer of GEUSOMIN_LINE_MAX bytes is room
+   enough for it. */
 #define GEUSOMIN_LINE_MAX 81920
 
 /* Room enough for every message. */
 #define GEUSOMIN_MESSAGE_MAX 256
 
-/* The refusals. "Wanted" is what the reader looked for where the position says. */
+/* The refusals. "Wanted" is what the reader looked for where the position says. Each call below names those that it can
+   give, and gives no other. */
 enum geusomin_refusal {
     GEUSOMIN_EOS = 1,                  /* end of text where `(` or `)` was wanted */
     GEUSOMIN_EXPECT_OPEN = 2,          /* `(` wanted */
@@ -59,8 +66,65 @@ enum geusomin_refusal {
     GEUSOMIN_NO_ROOM = 20              /* too short for the whole output, position 0 */
 };
 
-/* The kind of a record: bytes 4 and 5, little-endian. */
-enum geusomin_kind {
+/* What a refusal's number says, in the words of docs/01-scope.md; NULL for a number that is none. */
+static inline const char *geusomin_refusal_text(uint32_t number)
+{
+    switch (number) {
+    case GEUSOMIN_EOS:
+        return "end of text where `(` or `)` was wanted";
+    case GEUSOMIN_EXPECT_OPEN:
+        return "`(` wanted";
+    case GEUSOMIN_EXPECT_CLOSE:
+        return "`)` wanted";
+    case GEUSOMIN_EXPECT_DECLARATION:
+        return "none of the four openings";
+    case GEUSOMIN_EXPECT_KEYWORD:
+        return "keyword wanted";
+    case GEUSOMIN_EXPECT_IDENTIFIER:
+        return "identifier wanted";
+    case GEUSOMIN_EXPECT_END:
+        return "end of declaration wanted";
+    case GEUSOMIN_TOO_LONG:
+        return "over 4,096 bytes";
+    case GEUSOMIN_NOT_UTF8:
+        return "not UTF-8";
+    case GEUSOMIN_TOO_DEEP:
+        return "the reader meets a 33rd open tuple (a declaration's own list isn't one)";
+    case GEUSOMIN_INVALID_BIT_WIDTH:
+        return "what remains once readable suffixes are off is no kind: it starts with `int` or `uint`";
+    case GEUSOMIN_INVALID_BYTE_LENGTH:
+        return "what remains once readable suffixes are off is no kind: it starts with `bytes`";
+    case GEUSOMIN_UNKNOWN:
+        return "what remains once readable suffixes are off is no kind: it starts otherwise";
+    case GEUSOMIN_STARTS_WITH_TUPLE:
+        return "kind text starts with `(`";
+    case GEUSOMIN_NOT_WELL_FORMED:
+        return "record not well formed (or of the wrong sort: a field where a declaration is due)";
+    case GEUSOMIN_WRONG_SORT:
+        return "canonical or name of a constructor, or signature of anything but a function";
+    case GEUSOMIN_NO_ROOM:
+        return "too short for the whole output";
+    default:
+        return NULL;
+    }
+}
+
+/*
+ * Records. A record is its length, 4 bytes that count the whole record; its record kind, 2 bytes; its body. Numbers are
+ * little-endian. The layout of every body, and when a record is well formed, stand in docs/01-scope.md, section "One
+ * call, from text to line", paragraph "Record". Three numbers of 2 bytes each tell what else a text said:
+ *
+ *   mark        of a field: 1 where `indexed` stands behind its kind, in an event's own list; else 0
+ *   mutability  of a function: 0 pure, 1 view, 2 none stated, 3 payable; of a constructor: 2 or 3
+ *   anonymous   of an event: 1 where `anonymous` stands behind its list; else 0
+ *
+ * A field record may be taken out of its list and handed to the calls that take a field. One with mark 1, out of an
+ * event's list, is not well formed by itself: mark 1 stands in an event's own list only. With its mark, bytes 6 and 7,
+ * set to 0 it is.
+ */
+
+/* The record kinds of what the calls write and take: bytes 4 and 5 of a record. */
+enum geusomin_record_kind {
     GEUSOMIN_FIELD = 0x10,
     GEUSOMIN_FUNCTION = 0x20,
     GEUSOMIN_CONSTRUCTOR = 0x21,
@@ -68,35 +132,49 @@ enum geusomin_kind {
     GEUSOMIN_ERROR = 0x23
 };
 
-/* The general reading call: a text that starts with `function`, `constructor`, `event` or `error`. Writes its record. */
+/*
+ * The reading calls take a text and write its record.
+ */
+
+/* The general one: a text that starts with `function`, `constructor`, `event` or `error`. Blanks before it are refused.
+   Refusals: 1 to 10, 20. */
 uint32_t geusomin_parse_declaration(const uint8_t *text, size_t text_len, uint8_t *record, size_t room, size_t *value);
 
-/* The calls named for a keyword. They skip leading blanks. */
+/* Those named for a keyword. They skip leading blanks. Refusals: 1 to 3, 5 to 10, 20. */
 uint32_t geusomin_parse_function(const uint8_t *text, size_t text_len, uint8_t *record, size_t room, size_t *value);
-uint32_t geusomin_parse_constructor(const uint8_t *text, size_t text_len, uint8_t *record, size_t room, size_t *value);
 uint32_t geusomin_parse_event(const uint8_t *text, size_t text_len, uint8_t *record, size_t room, size_t *value);
 uint32_t geusomin_parse_error(const uint8_t *text, size_t text_len, uint8_t *record, size_t room, size_t *value);
 
-/* The kind call: a whole text as a kind. Writes a field with mark 0 and an empty name. */
+/* The same for a constructor, which has no name. Refusals: 1 to 3, 5, 7 to 10, 20. */
+uint32_t geusomin_parse_constructor(const uint8_t *text, size_t text_len, uint8_t *record, size_t room, size_t *value);
+
+/* The kind call: a whole text as a kind, which is what Solidity calls a type. Writes a field record with mark 0 and an
+   empty name. Refusals: 8, 9, 11 to 14, 20. */
 uint32_t geusomin_parse_kind(const uint8_t *text, size_t text_len, uint8_t *record, size_t room, size_t *value);
 
-/* The calls on records: bytes of any origin, which are checked first. */
+/*
+ * The calls on records take bytes of any origin, which are checked first, and write a text.
+ */
 
-/* Canonical text of a function, an event or an error: name, `(`, kinds parted by `,`, `)`. */
+/* Canonical text of a function, an event or an error: name, `(`, kinds parted by `,`, `)`. Refusals: 15, 16, 20. */
 uint32_t geusomin_canonical(const uint8_t *record, size_t record_len, uint8_t *text, size_t room, size_t *value);
 
-/* Of a function: canonical text, `:`, and the outputs in brackets. */
+/* Of a function: canonical text, `:`, and the outputs in brackets. Refusals: 15, 16, 20. */
 uint32_t geusomin_signature(const uint8_t *record, size_t record_len, uint8_t *text, size_t room, size_t *value);
 
-/* The kind of a field. */
+/* The kind of a field, as canonical text has it. Refusals: 15, 20. */
 uint32_t geusomin_kind_text(const uint8_t *record, size_t record_len, uint8_t *text, size_t room, size_t *value);
 
-/* The name of a function, an event, an error or a field; a field's may be empty. */
+/* The name of a function, an event, an error or a field; a field's may be empty. Refusals: 15, 16, 20. */
 uint32_t geusomin_copy_name(const uint8_t *record, size_t record_len, uint8_t *text, size_t room, size_t *value);
 
-/* The message call: the message of the error that the reading call of that name finds in a text, as
-   `expected identifier at position 8("function| ()")`. It writes nothing, and *value is 0, where that call accepts the
-   text or its refusal has no message: 8 to 10. */
+/*
+ * The message call writes the message of the error that the reading call of that name finds in a text, as
+ * `expected identifier at position 8("function| ()")`. Where the reading call accepts the text, or its refusal has no
+ * message (8 to 10), it writes nothing and *value is 0.
+ */
+
+/* Refusals: 20. */
 uint32_t geusomin_message_declaration(const uint8_t *text, size_t text_len, uint8_t *out, size_t room, size_t *value);
 uint32_t geusomin_message_function(const uint8_t *text, size_t text_len, uint8_t *out, size_t room, size_t *value);
 uint32_t geusomin_message_constructor(const uint8_t *text, size_t text_len, uint8_t *out, size_t room, size_t *value);
