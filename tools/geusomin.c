@@ -1,15 +1,10 @@
 /*
- * The calls of include/geusomin.h on the command line.
- *
- *   geusomin              reads declarations from standard input, a line each, and prints for each what `deposit` prints,
- *                         with the message behind a tab where a refusal has one
- *   geusomin replay       reads lines `CALL HEX ROOM` and prints `ok HEX` or `no NUMBER POSITION` for each
- *   geusomin bench FILE   times the calls over a file of declarations
- *
- * A line is what stands before its line feed; the last one may lack it.
+ * The calls of include/geusomin.h on the command line; `geusomin --help` tells how. A line is what stands before its line
+ * feed; the last one of a file may lack it.
  */
 #define _POSIX_C_SOURCE 200809L
 
+#include <errno.h>
 #include <fcntl.h>
 #include <inttypes.h>
 #include <stdbool.h>
@@ -20,6 +15,13 @@
 #include <unistd.h>
 
 #include "geusomin.h"
+
+enum status {
+    ANSWERED = 0,
+    FAILED = 1,
+    MISUSED = 2,
+    REFUSED = 3
+};
 
 typedef uint32_t call(const uint8_t *in, size_t length, uint8_t *out, size_t room, size_t *value);
 
@@ -45,16 +47,18 @@ static const struct {
     {"message:error", geusomin_message_error},
 };
 
+#define CALLS (sizeof calls / sizeof *calls)
+
 struct bytes {
     const uint8_t *at;
     size_t length;
 };
 
-static _Noreturn void fail(const char *what)
+/* Ends the program, with a message. */
+static _Noreturn void stop(enum status status, const char *where, const char *why)
 {
-    fflush(stdout);
-    fprintf(stderr, "geusomin: %s\n", what);
-    exit(EXIT_FAILURE);
+    fprintf(stderr, "geusomin: %s: %s\n", where, why);
+    exit(status);
 }
 
 static double seconds(void)
@@ -65,29 +69,180 @@ static double seconds(void)
     return (double)now.tv_sec + (double)now.tv_nsec / 1e9;
 }
 
-/* Lines. Input goes through a window: its bytes from `from` to `end` are read and not yet handed out. A line is handed out
-   where it stands and stays there until the next is asked for. Of a line longer than the window the front is handed out, and
-   the rest is skipped. */
+/* Output. Standard output goes through a buffer of its own, so that a failed write is seen where it happens, with the
+   system's reason. */
 static struct {
+    size_t used;
+    uint8_t bytes[1 << 16];
+} output;
+
+static void flush(void)
+{
+    size_t sent = 0;
+
+    while (sent < output.used) {
+        ssize_t wrote = write(STDOUT_FILENO, output.bytes + sent, output.used - sent);
+
+        if (wrote >= 0)
+            sent += (size_t)wrote;
+        else if (errno != EINTR)
+            stop(FAILED, "standard output", strerror(errno));
+    }
+    output.used = 0;
+}
+
+static void print(const uint8_t *bytes, size_t length)
+{
+    while (length > sizeof output.bytes - output.used) {
+        size_t fits = sizeof output.bytes - output.used;
+
+        memcpy(output.bytes + output.used, bytes, fits);
+        output.used += fits;
+        bytes += fits;
+        length -= fits;
+        flush();
+    }
+    memcpy(output.bytes + output.used, bytes, length);
+    output.used += length;
+}
+
+static void print_text(const char *text)
+{
+    print((const uint8_t *)text, strlen(text));
+}
+
+static void print_number(uint64_t number)
+{
+    uint8_t digits[20];
+    size_t from = sizeof digits;
+
+    do {
+        digits[--from] = (uint8_t)('0' + number % 10);
+        number /= 10;
+    } while (number > 0);
+    print(digits + from, sizeof digits - from);
+}
+
+/* Some systems tell only here that a write failed. */
+static void close_output(void)
+{
+    flush();
+    if (close(STDOUT_FILENO) != 0)
+        stop(FAILED, "standard output", strerror(errno));
+}
+
+/* Lines answered, in all and by the refusal's number, where 0 is acceptance. */
+static struct {
+    uint64_t lines, by_number[GEUSOMIN_NO_ROOM + 1];
+    bool watched; /* somebody sees standard error */
+    double started, told;
+} tally;
+
+static void tell_progress(void)
+{
+    double now;
+
+    if (!tally.watched)
+        return;
+    now = seconds();
+    if (now - tally.told < 1)
+        return;
+    tally.told = now;
+    fprintf(stderr, "geusomin: lines so far: %" PRIu64 "\n", tally.lines);
+}
+
+static void tell_rate(double rate)
+{
+    if (rate < 1e6)
+        fprintf(stderr, ", %.0f lines a second\n", rate);
+    else
+        fprintf(stderr, ", %.1f million lines a second\n", rate / 1e6);
+}
+
+static void tell_summary(void)
+{
+    double took = seconds() - tally.started;
+    const char *before = " (";
+
+    fprintf(stderr, "geusomin: %" PRIu64 " %s, %" PRIu64 " accepted, %" PRIu64 " refused", tally.lines, tally.lines == 1 ? "line" : "lines",
+            tally.by_number[0], tally.lines - tally.by_number[0]);
+    for (int number = 1; number <= GEUSOMIN_NO_ROOM; number++) {
+        if (tally.by_number[number] > 0) {
+            fprintf(stderr, "%s%d: %" PRIu64, before, number, tally.by_number[number]);
+            before = ", ";
+        }
+    }
+    if (tally.by_number[0] < tally.lines)
+        fputc(')', stderr);
+    tell_rate(took > 0 ? (double)tally.lines / took : 0);
+}
+
+/* Input: the files that are named, one after the other, through a window. Its bytes from `from` to `end` are read and not
+   yet handed out. A line is handed out where it stands and stays there until the next is asked for. Of a line longer than
+   the window the front is handed out, and the rest is skipped. */
+static struct {
+    char **files;     /* still to be read, up to a null pointer */
+    const char *name; /* of what is read now */
     int file;
+    bool reading, opened; /* whether a file is being read, and whether it was opened here */
+    uint64_t line;        /* which line of its file was handed out, counted from 1 */
     size_t from, end;
     bool cut; /* what is left of a cut line comes first */
     uint8_t bytes[1 << 20];
-} window;
+} input;
 
-/* Reads on behind the bytes that are held; false at the end of the input. What was printed goes out before. */
+/* What was printed goes out first. */
+static _Noreturn void stop_reading(int error)
+{
+    flush();
+    stop(FAILED, input.name, strerror(error));
+}
+
+/* False where every file has been read. */
+static bool open_next(void)
+{
+    const char *name = *input.files;
+
+    if (name == NULL)
+        return false;
+    input.files++;
+    input.opened = strcmp(name, "-") != 0;
+    input.name = input.opened ? name : "standard input";
+    input.file = input.opened ? open(name, O_RDONLY) : STDIN_FILENO;
+    if (input.file < 0)
+        stop_reading(errno);
+    input.reading = true;
+    input.line = 0;
+    return true;
+}
+
+static void close_input(void)
+{
+    if (input.opened)
+        close(input.file);
+    input.reading = false;
+}
+
+/* Reads on behind the bytes that are held; false at the end of the file. What was printed goes out before. */
 static bool refill(void)
 {
     ssize_t got;
 
-    fflush(stdout);
-    window.end -= window.from;
-    memmove(window.bytes, window.bytes + window.from, window.end);
-    window.from = 0;
-    got = read(window.file, window.bytes + window.end, sizeof window.bytes - window.end);
+    if (!input.reading)
+        return false;
+    flush();
+    tell_progress();
+    input.end -= input.from;
+    memmove(input.bytes, input.bytes + input.from, input.end);
+    input.from = 0;
+    do
+        got = read(input.file, input.bytes + input.end, sizeof input.bytes - input.end);
+    while (got < 0 && errno == EINTR);
     if (got < 0)
-        fail("cannot read the input");
-    window.end += (size_t)got;
+        stop_reading(errno);
+    if (got == 0)
+        close_input();
+    input.end += (size_t)got;
     return got > 0;
 }
 
@@ -96,46 +251,56 @@ static void skip_cut_line(void)
     const uint8_t *feed;
 
     do {
-        window.from = window.end;
+        input.from = input.end;
         if (!refill())
             return;
-        feed = memchr(window.bytes, '\n', window.end);
+        feed = memchr(input.bytes, '\n', input.end);
     } while (feed == NULL);
-    window.from = (size_t)(feed - window.bytes) + 1;
+    input.from = (size_t)(feed - input.bytes) + 1;
 }
 
-/* False where there is no more line. */
-static bool next_line(struct bytes *line)
+/* False where the file has no more line. */
+static bool next_of_file(struct bytes *line)
 {
     const uint8_t *feed;
     size_t searched = 0, held;
 
-    if (window.cut)
+    if (input.cut)
         skip_cut_line();
     for (;;) {
-        held = window.end - window.from;
-        feed = memchr(window.bytes + window.from + searched, '\n', held - searched);
-        window.cut = feed == NULL && held == sizeof window.bytes;
+        held = input.end - input.from;
+        feed = memchr(input.bytes + input.from + searched, '\n', held - searched);
+        input.cut = feed == NULL && held == sizeof input.bytes;
         searched = held;
-        if (feed != NULL || window.cut || !refill())
+        if (feed != NULL || input.cut || !refill())
             break;
     }
-    line->at = window.bytes + window.from;
+    line->at = input.bytes + input.from;
     line->length = feed != NULL ? (size_t)(feed - line->at) : held;
-    window.from += line->length + (feed != NULL);
+    input.from += line->length + (feed != NULL);
+    input.line++;
     return feed != NULL || held > 0;
+}
+
+/* False where no file has one more. */
+static bool next_line(struct bytes *line)
+{
+    while (!next_of_file(line))
+        if (!open_next())
+            return false;
+    return true;
 }
 
 /* What `deposit` prints, and the message. */
 
-static int kind_of(const uint8_t *record)
+static int record_kind_of(const uint8_t *record)
 {
     return record[4] | record[5] << 8;
 }
 
-static const char *keyword_of(int kind)
+static const char *keyword_of(int record_kind)
 {
-    switch (kind) {
+    switch (record_kind) {
     case GEUSOMIN_FUNCTION:
         return "function";
     case GEUSOMIN_CONSTRUCTOR:
@@ -161,12 +326,12 @@ static void print_canonical(struct bytes record)
     static uint8_t text[GEUSOMIN_LINE_MAX];
     size_t length;
 
-    if (kind_of(record.at) == GEUSOMIN_CONSTRUCTOR)
-        putchar('-');
+    if (record_kind_of(record.at) == GEUSOMIN_CONSTRUCTOR)
+        print_text("-");
     else if (geusomin_canonical(record.at, record.length, text, sizeof text, &length) == 0)
-        fwrite(text, 1, length, stdout);
+        print(text, length);
     else
-        fail("a record that was read is refused");
+        stop(FAILED, "the library", "a record that was read is refused");
 }
 
 static void print_message(struct bytes text)
@@ -175,11 +340,19 @@ static void print_message(struct bytes text)
     size_t length;
 
     if (geusomin_message_declaration(text.at, text.length, message, sizeof message, &length) != 0)
-        fail("a message is too long");
+        stop(FAILED, "the library", "a message is too long");
     if (length > 0) {
-        putchar('\t');
-        fwrite(message, 1, length, stdout);
+        print_text("\t");
+        print(message, length);
     }
+}
+
+static void print_refusal(uint32_t number, size_t position)
+{
+    print_text("no ");
+    print_number(number);
+    print_text(" ");
+    print_number(position);
 }
 
 static void print_deposit(struct bytes text)
@@ -189,25 +362,34 @@ static void print_deposit(struct bytes text)
     uint32_t refusal = geusomin_parse_declaration(text.at, text.length, record, sizeof record, &value);
 
     if (refusal == 0) {
-        printf("ok %s %zu ", keyword_of(kind_of(record)), value);
+        print_text("ok ");
+        print_text(keyword_of(record_kind_of(record)));
+        print_text(" ");
+        print_number(value);
+        print_text(" ");
         print_canonical((struct bytes){record, value});
     } else {
-        printf("no %" PRIu32 " %zu", refusal, value);
+        print_refusal(refusal, value);
         print_message(text);
     }
-    putchar('\n');
+    print_text("\n");
+    tally.lines++;
+    tally.by_number[refusal]++;
 }
 
-static void print_deposits(void)
+static enum status print_deposits(char **files, bool check, bool quiet)
 {
     struct bytes line;
-    double started = seconds(), took;
-    uint64_t count = 0;
 
-    for (; next_line(&line); count++)
+    tally.watched = !quiet && isatty(STDERR_FILENO);
+    tally.started = tally.told = seconds();
+    input.files = files;
+    while (next_line(&line))
         print_deposit(judged(line));
-    took = seconds() - started;
-    fprintf(stderr, "geusomin: %" PRIu64 " lines in %.2f seconds, %.0f a second\n", count, took, took > 0 ? (double)count / took : 0);
+    close_output();
+    if (!quiet)
+        tell_summary();
+    return check && tally.by_number[0] < tally.lines ? REFUSED : ANSWERED;
 }
 
 /* Replay. The lent buffer is filled beforehand and reaches past the room that is lent. */
@@ -215,6 +397,18 @@ static void print_deposits(void)
 #define ROOM_MAX 131072
 #define PAST_ROOM 64
 #define FILL 0xA5
+
+static char *standard_input[] = {"-", NULL};
+
+/* What was answered goes out first. */
+static _Noreturn void stop_replay(const char *why)
+{
+    char where[64];
+
+    flush();
+    snprintf(where, sizeof where, "replay: line %" PRIu64, input.line);
+    stop(MISUSED, where, why);
+}
 
 /* Takes the part of a line before its next space. */
 static struct bytes take_field(struct bytes *line)
@@ -234,10 +428,10 @@ static bool is(struct bytes field, const char *word)
 
 static call *call_named(struct bytes name)
 {
-    for (size_t i = 0; i < sizeof calls / sizeof *calls; i++)
+    for (size_t i = 0; i < CALLS; i++)
         if (is(name, calls[i].name))
             return calls[i].run;
-    fail("replay: no such call");
+    stop_replay("no call has that name");
 }
 
 static size_t room_of(struct bytes field)
@@ -247,13 +441,13 @@ static size_t room_of(struct bytes field)
     if (is(field, "-"))
         return ROOM_MAX;
     if (field.length == 0)
-        fail("replay: a line has no room");
+        stop_replay("no room is given");
     for (size_t i = 0; i < field.length; i++) {
         if (field.at[i] < '0' || '9' < field.at[i])
-            fail("replay: a room is no number");
+            stop_replay("the room is no number");
         room = 10 * room + (field.at[i] - (size_t)'0');
         if (room > ROOM_MAX)
-            fail("replay: a room is too large");
+            stop_replay("the room is too large");
     }
     return room;
 }
@@ -264,16 +458,16 @@ static uint8_t digit_of(uint8_t c)
         return (uint8_t)(c - '0');
     if ('a' <= c && c <= 'f')
         return (uint8_t)(c - 'a' + 10);
-    fail("replay: bytes are not in lower-case hex");
+    stop_replay("the bytes are not in lower-case hex");
 }
 
-/* A block of its own size, so that a tool that watches memory sees a step past either end. */
+/* A block of its own size: a tool that watches memory sees where this program steps past its end. */
 static uint8_t *allocate(size_t size)
 {
     uint8_t *block = malloc(size > 0 ? size : 1);
 
     if (block == NULL)
-        fail("out of memory");
+        stop(FAILED, "memory", strerror(errno));
     return block;
 }
 
@@ -282,22 +476,24 @@ static struct bytes decoded(struct bytes hex)
     size_t length = is(hex, "-") ? 0 : hex.length / 2;
     uint8_t *block;
 
-    if (!is(hex, "-") && (hex.length == 0 || hex.length % 2 != 0))
-        fail("replay: bytes are not in pairs of digits");
+    if (hex.length == 0)
+        stop_replay("no bytes are given");
+    if (!is(hex, "-") && hex.length % 2 != 0)
+        stop_replay("the bytes are not in pairs of digits");
     block = allocate(length);
     for (size_t i = 0; i < length; i++)
         block[i] = (uint8_t)(digit_of(hex.at[2 * i]) << 4 | digit_of(hex.at[2 * i + 1]));
     return (struct bytes){block, length};
 }
 
-static void print_hex(const uint8_t *bytes, size_t length)
+static void print_hex(struct bytes bytes)
 {
-    if (length == 0)
-        putchar('-');
-    for (size_t i = 0; i < length; i++) {
-        putchar("0123456789abcdef"[bytes[i] >> 4]);
-        putchar("0123456789abcdef"[bytes[i] & 15]);
-    }
+    static const char digits[] = "0123456789abcdef";
+
+    if (bytes.length == 0)
+        print_text("-");
+    for (size_t i = 0; i < bytes.length; i++)
+        print((uint8_t[]){(uint8_t)digits[bytes.at[i] >> 4], (uint8_t)digits[bytes.at[i] & 15]}, 2);
 }
 
 static bool is_kept(const uint8_t *bytes, size_t length)
@@ -311,36 +507,41 @@ static bool is_kept(const uint8_t *bytes, size_t length)
 static void replay_line(struct bytes line)
 {
     call *run = call_named(take_field(&line));
-    struct bytes in = decoded(take_field(&line));
+    struct bytes hex = take_field(&line), in;
     size_t room = room_of(line), size = room + PAST_ROOM, value = 0, written;
-    uint8_t *out = allocate(size);
+    uint8_t *out;
     uint32_t refusal;
 
+    in = decoded(hex);
+    out = allocate(size);
     memset(out, FILL, size);
     refusal = run(in.at, in.length, out, room, &value);
     written = refusal == 0 ? value : 0;
     if (written > room)
-        fail("replay: a length is over the room");
+        stop(FAILED, "the library", "a length is over the room");
     if (refusal == 0) {
-        fputs("ok ", stdout);
-        print_hex(out, written);
+        print_text("ok ");
+        print_hex((struct bytes){out, written});
     } else {
-        printf("no %" PRIu32 " %zu", refusal, value);
+        print_refusal(refusal, value);
     }
-    puts(is_kept(out + written, size - written) ? "" : " damaged");
+    print_text(is_kept(out + written, size - written) ? "\n" : " damaged\n");
     free(out);
     free((void *)in.at);
 }
 
-static void replay(void)
+static enum status replay(void)
 {
     struct bytes line;
 
+    input.files = standard_input;
     while (next_line(&line)) {
-        if (window.cut)
-            fail("replay: a line is too long");
+        if (input.cut)
+            stop_replay("the line is too long");
         replay_line(line);
     }
+    close_output();
+    return ANSWERED;
 }
 
 /* Bench. */
@@ -374,6 +575,7 @@ static void time_call(const char *name, call *run, const struct corpus *corpus)
 {
     static uint8_t out[ROOM_MAX];
     double started = seconds(), best = 1e9, total = 0;
+    char line[128];
     size_t value;
 
     if (corpus->count == 0)
@@ -389,8 +591,10 @@ static void time_call(const char *name, call *run, const struct corpus *corpus)
         if (took < best)
             best = took;
     } while (seconds() - started < 1);
-    printf("%s: %zu inputs of %.0f bytes on average, %.0f ns each\n", name, corpus->count, total / (double)corpus->count,
-           best * 1e9 / (double)corpus->count);
+    snprintf(line, sizeof line, "%s: %zu inputs of %.0f bytes on average, %.0f ns each\n", name, corpus->count,
+             total / (double)corpus->count, best * 1e9 / (double)corpus->count);
+    print_text(line);
+    flush();
 }
 
 /* Keeps a text, and its record for the calls that take it; false where the store is full. */
@@ -402,20 +606,18 @@ static bool keep_line(struct bytes text)
 
     if (geusomin_parse_declaration(text.at, text.length, record, sizeof record, &value) != 0)
         return kept;
-    if (kind_of(record) != GEUSOMIN_CONSTRUCTOR)
+    if (record_kind_of(record) != GEUSOMIN_CONSTRUCTOR)
         kept = kept && keep(&lined, (struct bytes){record, value});
-    if (kind_of(record) == GEUSOMIN_FUNCTION)
+    if (record_kind_of(record) == GEUSOMIN_FUNCTION)
         kept = kept && keep(&functions, (struct bytes){record, value});
     return kept;
 }
 
-static void bench(const char *path)
+static enum status bench(char **file)
 {
     struct bytes line;
 
-    window.file = open(path, O_RDONLY);
-    if (window.file < 0)
-        fail("bench: cannot open the file");
+    input.files = file;
     store = allocate(STORE_MAX);
     while (next_line(&line)) {
         if (!keep_line(judged(line))) {
@@ -426,24 +628,117 @@ static void bench(const char *path)
     time_call("general", geusomin_parse_declaration, &texts);
     time_call("canonical", geusomin_canonical, &lined);
     time_call("signature", geusomin_signature, &functions);
+    close_output();
+    return ANSWERED;
+}
+
+/* The command line. */
+
+static const char usage[] =
+    "usage: geusomin [--check] [--quiet] [FILE..]\n"
+    "       geusomin replay\n"
+    "       geusomin bench FILE\n"
+    "       geusomin --help | --version\n";
+
+static const char about[] =
+    "\n"
+    "Reads declarations, a line each, from the files one after the other; `-`, or no file at all, is standard input. A last\n"
+    "line without a line feed ends with its file. For each line it prints one:\n"
+    "  ok KEYWORD LENGTH LINE   what was read, its record's length, its canonical line (`-` for a constructor)\n"
+    "  no NUMBER POSITION       why the line is refused, and where; behind a tab the message, where there is one\n"
+    "On standard error it tells how many lines there were, how many were accepted, how many were refused with each number,\n"
+    "and how many it answered a second; a terminal is told once a second how many there were so far.\n"
+    "\n"
+    "  --check      exit with status 3 where a line was refused\n"
+    "  --quiet      tell nothing on standard error but failures\n"
+    "  --           what follows are files\n"
+    "  --help       print this\n"
+    "  --version    print the version\n"
+    "  replay       read lines `CALL HEX ROOM` from standard input and print `ok HEX` or `no NUMBER POSITION` for each. HEX\n"
+    "               is in lower case, `-` for no bytes; ROOM is how many bytes the call is lent, `-` for the most, 131072\n"
+    "  bench FILE   time the general, canonical and signature calls over a file of declarations\n"
+    "\n"
+    "A first argument `replay` or `bench` is the command; ./bench names the file.\n"
+    "\n"
+    "Status:\n"
+    "  0 all was read and answered\n"
+    "  1 the input or the output failed\n"
+    "  2 an argument, or a line of replay, is malformed\n"
+    "  3 with --check: all was read and answered, and a line was refused\n"
+    "It stops at the first failure; what it answered before is printed.\n"
+    "\n"
+    "Calls of replay:\n";
+
+static enum status help(void)
+{
+    print_text(usage);
+    print_text(about);
+    for (size_t i = 0; i < CALLS; i++) {
+        print_text("  ");
+        print_text(calls[i].name);
+        print_text("\n");
+    }
+    print_text("\nRefusals:\n");
+    for (uint32_t number = 1; number <= GEUSOMIN_NO_ROOM; number++) {
+        if (geusomin_refusal_text(number) != NULL) {
+            print_text(number < 10 ? "   " : "  ");
+            print_number(number);
+            print_text(" ");
+            print_text(geusomin_refusal_text(number));
+            print_text("\n");
+        }
+    }
+    close_output();
+    return ANSWERED;
+}
+
+static enum status version(void)
+{
+    print_text("geusomin " GEUSOMIN_VERSION "\n");
+    close_output();
+    return ANSWERED;
+}
+
+static enum status misused(const char *argument, const char *why)
+{
+    fprintf(stderr, "geusomin: %s: %s\n%s", argument, why, usage);
+    return MISUSED;
+}
+
+/* Options may stand before, between and behind the files, up to `--`. The files are moved to the front of the arguments. */
+static enum status read_files(char **arguments)
+{
+    bool check = false, quiet = false, options = true;
+    char **files = arguments, **last = arguments;
+
+    for (char *argument; (argument = *arguments) != NULL; arguments++) {
+        if (!options || argument[0] != '-' || strcmp(argument, "-") == 0)
+            *last++ = argument;
+        else if (strcmp(argument, "--") == 0)
+            options = false;
+        else if (strcmp(argument, "--check") == 0)
+            check = true;
+        else if (strcmp(argument, "--quiet") == 0)
+            quiet = true;
+        else if (strcmp(argument, "--help") == 0)
+            return help();
+        else if (strcmp(argument, "--version") == 0)
+            return version();
+        else
+            return misused(argument, "no such option");
+    }
+    *last = NULL;
+    return print_deposits(last > files ? files : standard_input, check, quiet);
 }
 
 int main(int argc, char **argv)
 {
-    static char printed[1 << 16];
+    const char *command = argc > 1 ? argv[1] : "";
 
-    setvbuf(stdout, printed, _IOFBF, sizeof printed);
-    if (argc == 1) {
-        print_deposits();
-    } else if (argc == 2 && strcmp(argv[1], "replay") == 0) {
-        replay();
-    } else if (argc == 3 && strcmp(argv[1], "bench") == 0) {
-        bench(argv[2]);
-    } else {
-        fputs("usage: geusomin < DECLARATIONS\n       geusomin replay < CALLS\n       geusomin bench FILE\n", stderr);
-        return 2;
-    }
-    if (fflush(stdout) != 0 || ferror(stdout))
-        fail("cannot write the output");
-    return EXIT_SUCCESS;
+    setvbuf(stderr, NULL, _IOLBF, BUFSIZ); /* what is told goes out a line at a time */
+    if (strcmp(command, "replay") == 0)
+        return argc == 2 ? replay() : misused("replay", "takes no argument");
+    if (strcmp(command, "bench") == 0)
+        return argc == 3 ? bench(argv + 2) : misused("bench", "takes one file");
+    return read_files(argv + (argc > 0));
 }

@@ -1,7 +1,8 @@
 """What the C program is asked, line by line, and what it has to answer.
 
 The Rust's list says what is read of a text, and canonical text and signature of what was read; a name and the kinds of its
-fields stand in the canonical text. What of records is wrong, and with which refusal, is document 01's.
+fields stand in the canonical text. What of records is wrong, and with which refusal, is document 01's, and so are the limits
+of texts.
 """
 import re
 
@@ -73,8 +74,9 @@ def error(*inputs, name=b"E"):
     return record(ERROR, record(NAME, name), record(LIST, *inputs))
 
 
-def nested(depth):
-    kind = record(9)
+def nested(depth, *inner):
+    """Tuples of one field each, up to the innermost."""
+    kind = record(9, *inner)
     for _ in range(depth - 1):
         kind = record(9, field(kind))
     return kind
@@ -127,13 +129,15 @@ def kinds_in(canonical):
 
 
 def of_field(r, text):
-    """A field by itself. One with mark 1 is none."""
+    """A field by itself. One with mark 1 is none, and is one with mark 0."""
     mark, name = r[6], next(parts(r[8:]))[6:]
     whole = mark == 0
     yield from answered("kind_text", r, text if whole else NOT_WELL_FORMED)
     yield from answered("name", r, name if whole else NOT_WELL_FORMED)
     for call in ("canonical", "signature"):
         yield from refused(call, r, NOT_WELL_FORMED)
+    if not whole:
+        yield from of_field(r[:6] + number(0, 2) + r[8:], text)
 
 
 def of_declaration(r, canonical, signature):
@@ -284,3 +288,27 @@ def of_records():
     yield from of_declaration(event(field(BOOL, b"indexed", mark=1), field(record(9, field(BOOL, b"indexed"))), anonymous=1), b"E(bool,(bool))", b"")
     longest_suffix = record(0xA, number(2 ** 64 - 1, 8))
     yield from of_field(field(UINT, suffixes=longest_suffix * 2000), b"uint256" + b"[18446744073709551615]" * 2000)
+
+
+# Texts at the limits, where the Rust is not asked.
+
+def declared(kind, *inputs):
+    """A declaration's text up to behind its `(`, and its record."""
+    build, name = {FUNCTION: (function, b" f"), CONSTRUCTOR: (constructor, b""), EVENT: (event, b" E"), ERROR: (error, b" E")}[kind]
+    return KEYWORDS[kind].encode() + name + b"(", build(*inputs)
+
+
+def of_limits():
+    for kind, keyword in KEYWORDS.items():
+        opening, r = declared(kind, field(nested(32, field(UINT, b"a"))))
+        longest_text = (opening + b"(" * 32 + "uint\u2003a".encode() + b")" * 32).ljust(4095) + b")"
+        for call in ("general", keyword):
+            yield from written(call, longest_text, r)
+            yield from refused(call, longest_text + b" ", "no 8 0")
+            yield from refused(call, opening + b"(" * 33, f"no 10 {len(opening) + 32}")
+            for text in (longest_text, longest_text + b" ", opening + b"(" * 33):
+                yield from written(f"message:{call}", text, b"")
+    yield from refused("kind", b"(uint)", "no 14 0")
+    yield from refused("kind", b"(" * 4096, "no 14 0")
+    yield from refused("kind", b"(" * 4097, "no 8 0")
+    yield from refused("kind", b"(\xff", "no 9 1")

@@ -1,0 +1,91 @@
+"""Tests of the header: the texts of the refusals are document 01's, and each call gives the refusals that its comment names.
+
+A number's words stand behind it in document 01, up to its position or the end of the sentence; 11 to 13 share theirs.
+"""
+import re
+import shutil
+import subprocess
+
+VERSION = re.compile(r'^#define GEUSOMIN_VERSION "(\d+\.\d+\.\d+)"$', re.M)
+STRICT = ["-Wall", "-Wextra", "-Wpedantic", "-Werror"]
+LANGUAGES = {"C99": ["gcc", "-std=c99", "-x", "c"], "C11": ["gcc", "-std=c11", "-x", "c"], "C++": ["g++", "-x", "c++"]}
+NUMBERS = (*range(41), 2 ** 32 - 1)  # those that header.c asks for
+
+
+def document_words(document):
+    """Numbers and their words, as document 01 has them."""
+    causes = document[document.index("## What the sender's bytes cause"):document.index("## Edges")]
+    words = {int(n): text for n, text in re.findall(r"(?:^|\. |: )(\d+) (.*?)(?=, position|;|\.(?: |$))", causes, re.M)}
+    shared, starts, *ends = re.search(r"(what remains [^:]*): 11 if (it starts) (with [^,]*), 12 if (with [^,]*), 13 (\w+)\.", causes).groups()
+    return {**words, **{11 + i: f"{shared}: {starts} {end}" for i, end in enumerate(ends)}}
+
+
+def expected(top):
+    """What header.c has to print."""
+    words = document_words((top / "docs" / "01-scope.md").read_text())
+    version = VERSION.search((top / "include" / "geusomin.h").read_text())[1]
+    return [version, *(f"{n} {words.get(n, '-')}" for n in NUMBERS), "f(uint256)"]
+
+
+def printed(top, compiler):
+    """What header.c prints, compiled so."""
+    program = top / "target" / "header"
+    library = top / "target" / "staticlib" / "libgeusomin.a"
+    done = subprocess.run([*compiler, *STRICT, f"-I{top / 'include'}", top / "tests" / "c" / "header.c", "-x", "none", library, "-o", program])
+    return subprocess.run([program], capture_output=True, text=True).stdout.splitlines() if done.returncode == 0 else []
+
+
+def texts(top):
+    """How many lines are as expected and how many are not, in each language."""
+    passed = failed = 0
+    for language, compiler in LANGUAGES.items():
+        if language == "C++" and shutil.which(compiler[0]) is None:
+            print("skipped: the header in C++: there is no g++")
+            continue
+        got = printed(top, compiler)
+        wanted = expected(top)
+        wrong = [line for i, line in enumerate(wanted) if got[i:i + 1] != [line]]
+        for line in wrong[:3]:
+            print(f"header in {language}: not printed: {line}")
+        passed, failed = passed + len(wanted) - len(wrong), failed + len(wrong) + max(0, len(got) - len(wanted))
+    return passed, failed
+
+
+# The refusals that a call can give.
+
+def numbers(listed):
+    """`1 to 3, 20` as a set."""
+    ends = (part.split(" to ") for part in listed.split(", "))
+    return {n for part in ends for n in range(int(part[0]), int(part[-1]) + 1)}
+
+
+def named(header):
+    """By C function, the refusals that the comment before it names."""
+    listed, result = None, {}
+    for text, function in re.findall(r"Refusals: ([\d, to]+)\.|^uint32_t geusomin_(\w+)\(", header, re.M):
+        if function:
+            result[function] = listed
+        else:
+            listed = numbers(text)
+    return result
+
+
+def call_of(function):
+    """The name that `replay` has for a C function."""
+    call = function.replace("parse_", "").replace("copy_", "").replace("message_", "message:")
+    return call.replace("declaration", "general")
+
+
+def refusals(top, calls):
+    """By C function, whether its refusals in all that is replayed are those that the header names."""
+    given = {}
+    for line, answer in calls:
+        given.setdefault(line.split()[0], set()).update([int(answer.split()[1])] if answer.startswith("no ") else [])
+    listed = named((top / "include" / "geusomin.h").read_text())
+    wrong = [function for function in listed if listed[function] != given.get(call_of(function))]
+    for function in wrong:
+        print(f"header: geusomin_{function}: names the refusals {listed[function]}, gives {given.get(call_of(function))}")
+    missing = set(given) - {call_of(function) for function in listed}
+    for call in missing:
+        print(f"header: no function for the call {call}")
+    return len(listed) - len(wrong), len(wrong) + len(missing)
