@@ -83,8 +83,12 @@ def write_modules(proofs, rows):
 
 
 def main():
-    count = int(sys.argv[1]) if len(sys.argv) > 1 else 400
-    longest = int(sys.argv[2]) if len(sys.argv) > 2 else 160
+    if len(sys.argv) > 3 or not all(word.isdigit() and int(word) for word in sys.argv[1:]):
+        print("usage: tests/evaluate.py [COUNT] [LONGEST]", file=sys.stderr)
+        sys.exit(2)
+    if not shutil.which("rt"):
+        sys.exit("tests/evaluate.py: the command rt (the Rattle toolchain) is not on the PATH")
+    count, longest = (int(word) for word in (sys.argv[1:] + ["400", "160"][len(sys.argv) - 1:]))
     rows = sample(count, longest)
     with tempfile.TemporaryDirectory() as folder:
         top = pathlib.Path(folder)
