@@ -1,21 +1,19 @@
-#!/bin/sh
+#!/usr/bin/env bash
 # Builds the oracle: a program that answers as the Rust original does.
-# Usage: [SOURCE=folder] [OUT=folder] ./build.sh
-#   SOURCE  the Rust source (default: ../shared/docs/src, seen from the repository's top)
+# Usage: SOURCE=FOLDER [OUT=FOLDER] ./build.sh
+#   SOURCE  the Rust source, a folder that has src/abi/declaration.rs
 #   OUT     where to build (default: target/oracle in the repository's top)
 # declaration.rs is used byte for byte. abi.rs and value.rs are cut mechanically:
 # markers and a filter only drop serde, hashing, imports and the parts not needed.
-# Prints the program's path. Exit status 3: the Rust source is not at hand.
-set -eu
-HERE=$(cd "$(dirname "$0")" && pwd)
+# Prints the program's path. Exit status 3: the Rust source or a rustc that is new enough is not at hand.
+set -euo pipefail
+me=tests/oracle/build.sh
+HERE=$(cd "$(dirname "$(readlink -f "$0")")" && pwd)
 TOP=$(cd "$HERE/../.." && pwd)
-SOURCE=${SOURCE:-$TOP/../shared/docs/src}
 OUT=${OUT:-$TOP/target/oracle}
+. "$TOP/tools/common.sh"
 
-if [ ! -d "$SOURCE" ]; then
-  echo "the Rust source is not at hand: no folder $SOURCE" >&2
-  exit 3
-fi
+need_rust
 
 DECLARATION="$SOURCE/src/abi/declaration.rs"
 ABI="$SOURCE/src/abi.rs"

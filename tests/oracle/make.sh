@@ -1,12 +1,14 @@
-#!/bin/sh
+#!/usr/bin/env bash
 # Makes answers.txt: the texts of texts.py, each with the Rust original's answer.
 # Usage: ./make.sh           writes answers.txt and prints how many answers of each sort
 #        ./make.sh --check   compares instead of writing; exit status 1 if different
 # The list stands in crates/replay, whose program reads it; answers.txt is a link to it.
-# SOURCE and OUT are those of build.sh. Exit status 3: the Rust source is not at hand.
-set -eu
-HERE=$(cd "$(dirname "$0")" && pwd)
+# SOURCE, OUT and exit status 3 are those of build.sh.
+set -euo pipefail
+me=tests/oracle/make.sh
+HERE=$(cd "$(dirname "$(readlink -f "$0")")" && pwd)
 ANSWERS="$HERE/../../crates/replay/stdin"
+. "$HERE/../../tools/common.sh"
 
 # A line of the list is the text's line, a space and the oracle's line.
 make_answers() {
@@ -56,6 +58,7 @@ case "${1:-}" in
   *) echo "usage: $0 [--check]" >&2; exit 2 ;;
 esac
 
+need python3 "which makes the texts"
 ORACLE=$("$HERE/build.sh")
 WORK=$(mktemp -d)
 trap 'rm -rf "$WORK"' EXIT
