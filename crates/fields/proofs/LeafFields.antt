@@ -11,7 +11,6 @@ use borrow.Author.Tests.{ne-eqb}
 use Rattle.kinds.specs.Kind.{Suffix}
 use Rattle.model.specs.declared.Refusal.{Refusal}
 use Rattle.model.specs.declared.Sort.{Sort}
-use Rattle.model.specs.declared.Sort.the-variants.{Plain, Parameter, Event}
 use Rattle.model.specs.Text.{runLength, part}
 use Rattle.model.specs.Tree.{elementary, Field, field, unmarked}
 use Rattle.model.specs.KindText.{Spelled, ok, err, fromStr}
@@ -34,7 +33,7 @@ use Rattle.value.specs.Run.{ReadIs, RunIs, LeafAt, LeafPut}
 use Rattle.value.proofs.Suffixing.{suffix-least}
 use Rattle.fields.specs.declared.Read.{Read}
 use Rattle.fields.specs.declared.Read.the-variants.{Got, Bad}
-use Rattle.fields.specs.Words.{marksBy, NamedIs}
+use Rattle.fields.specs.Words.{NamedIs}
 use Rattle.fields.specs.Scratch.{toRead, bytesOf, Room, locatedBase, locatedBy, behindKind, leafOf, Put}
 
 -- locations
@@ -87,22 +86,12 @@ unfolding encodeSuffixes
 located-is b [] = sym (located-base b 0 refl b refl) ∙ same-base b
 located-is b (o ∷ ss) = sym (located-array b (length (encodeSuffix 4 o ++ encodeSuffixes 4 ss)) (λ z. omega (arith, length-append (encodeSuffix 4 o) (encodeSuffixes 4 ss), suffix-least o)))
 
-marks-by : (sort : Sort) (k : FieldKind) → marks sort k ≡ marksBy sort (canSpecifyLocation (k .base) (k .suffixes))
-unfolding marks
-marks-by Plain k = refl
-marks-by Parameter k = go (canSpecifyLocation (k .base) (k .suffixes)) refl
-  where
-    go : (l : Bool) → canSpecifyLocation (k .base) (k .suffixes) ≡ l → marks Parameter k ≡ marksBy Parameter l
-    go true e = rw (marks, e)
-    go false e = rw (marks, e)
-marks-by Event k = refl
-
 -- a mark and a name behind a kind
 pub behind-got : (s : List ℕ) (at : ℕ) (sort : Sort) (l : Bool) (m a e n : ℕ) (k : FieldKind) → NamedIs s at sort l m a e n → l ≡ canSpecifyLocation (k .base) (k .suffixes)
     → behindKind sort k s at ≡ got (field m (take (e - a) (drop a s)) (k .base) (k .suffixes)) n
-unfolding behindKind then
+unfolding behindKind then marks
 behind-got s at sort l m a e n k i q =
-    let f : option (marks sort k) unmarked s at ≡ got m (i .between) = rw (marks-by sort k, ← q) (i .marked) in
+    let f : option (marks sort k) unmarked s at ≡ got m (i .between) = rw (marks, ← q) (i .marked) in
     rw (f, i .named)
 
 -- the run that spells a kind

@@ -14,15 +14,18 @@ use Rattle.kinds.specs.Bytes.{ascii, same}
 use Rattle.model.specs.declared.Sort.{Sort}
 use Rattle.model.specs.declared.Sort.the-variants.{Plain, Parameter, Event}
 use Rattle.model.specs.Text.{peek, wordLength, part}
-use Rattle.model.specs.Tree.{unmarked, indexed}
+use Rattle.model.specs.Tree.{unmarked, inCalldata, inMemory}
 use Rattle.model.specs.KindText.{Entry, entry, lookup}
 use Rattle.model.specs.Parser.{got, found, missing, word, wordEnd, keywordOf, lookIdent, option, optionalName}
-use Rattle.model.specs.Reading.{locations}
+use Rattle.model.specs.Reading.{marksBy}
+use Rattle.model.specs.Record.{hasMark}
+use Rattle.model.proofs.Bounds.{In}
+use Rattle.model.proofs.Marks.{lookup-has, mark-small}
 use Rattle.model.proofs.Scans.{part-rest, peek-byte, peek-end}
 use Rattle.text.specs.Found.{Skipped}
 use Rattle.text.proofs.Skipping.{skipped-none}
 use Rattle.fields.specs.declared.Named.{Named}
-use Rattle.fields.specs.Words.{EndIs, WordIs, Looked, marksBy, orNone, markOf, locationOf, nameAt, NamedIs}
+use Rattle.fields.specs.Words.{EndIs, WordIs, Looked, orNone, markOf, locationOf, nameAt, NamedIs}
 
 pub word-ends : (s : List ℕ) (a n : ℕ) → a ≤ length s → n ≡ wordLength (take (length s - a) (drop a s)) → n ≤ length (take (length s - a) (drop a s)) → EndIs s a (a + n)
 word-ends s a n h e l =
@@ -55,11 +58,11 @@ looked-here s at h k l = looked s at at (getD s at 0) (skipped-none s at h k l) 
 
 -- marks, where r is the code's test
 module _ (w : List ℕ) where
-  pub calldata-is : (r : Bool) → r ≡ same (ascii "calldata") w → r ≡ true → 0 ≡ locationOf w
+  pub calldata-is : (r : Bool) → r ≡ same (ascii "calldata") w → r ≡ true → inCalldata ≡ locationOf w
   unfolding locationOf
   calldata-is r e f = rw (← e, f)
 
-  pub memory-is : (r q : Bool) → r ≡ same (ascii "calldata") w → r ≡ false → q ≡ same (ascii "memory") w → q ≡ true → 0 ≡ locationOf w
+  pub memory-is : (r q : Bool) → r ≡ same (ascii "calldata") w → r ≡ false → q ≡ same (ascii "memory") w → q ≡ true → inMemory ≡ locationOf w
   unfolding locationOf
   memory-is r q e f g h = rw (← e, f, ← g, h)
 
@@ -115,10 +118,11 @@ lookup-small (entry v m ∷ es) h w = go (same v w) (lookup-small es (h .1) w)
     go false i = i
 
 marks-small : (sort : Sort) (l : Bool) (w : List ℕ) → Small (lookup (marksBy sort l) w)
-marks-small Plain l w = tt
-marks-small Parameter true w = lookup-small locations (omega arith, (omega arith, tt)) w
-marks-small Parameter false w = tt
-marks-small Event l w = lookup-small (entry (ascii "indexed") indexed ∷ []) (omega arith, tt) w
+marks-small sort l w = go (lookup (marksBy sort l) w) (lookup-has (marksBy sort l) w)
+  where
+    go : (o : Option ℕ) → In (λ m. hasMark (marksBy sort l) m ≡ true) o → Small o
+    go none i = tt
+    go (some m) i = mark-small sort l m i
 
 absent : (o : Option ℕ) → Small o → orNone o ≡ 256 → o ≡ none
 absent none h e = refl

@@ -2,19 +2,17 @@
 -- Assumes nothing.
 use mathlib.Core.Path.{_≡_}
 use mathlib.Core.Bool.{Bool, true, false}
-use mathlib.Core.List.{List, [], _∷_}
+use mathlib.Core.List.{List}
 use mathlib.Core.Option.{Option, none, some}
 use Prim.Native.Nat.{ℕ, _+_, _*_, _-_, _≤_}
 use lib.Dec.{eqb}
 use lib.ListN.{length, take, drop}
-use Rattle.kinds.specs.Bytes.{ascii}
 use Rattle.model.specs.declared.Sort.{Sort}
-use Rattle.model.specs.declared.Sort.the-variants.{Plain, Parameter, Event}
 use Rattle.model.specs.Text.{skip, peek, wordLength}
-use Rattle.model.specs.Tree.{unmarked, indexed}
-use Rattle.model.specs.KindText.{Entry, entry, lookup}
+use Rattle.model.specs.Tree.{unmarked}
+use Rattle.model.specs.KindText.{lookup}
 use Rattle.model.specs.Parser.{got, word, wordEnd, option, optionalName}
-use Rattle.model.specs.Reading.{locations}
+use Rattle.model.specs.Reading.{locations, marksBy}
 use Rattle.fields.specs.declared.Named.{Named}
 
 -- the place behind the word that stands at a place, which is that place if none does
@@ -39,13 +37,6 @@ pub record Looked (s : List ℕ) (at p b : ℕ) : Type 0 where
   pub low : at ≤ p
   pub inside : p ≤ length s
   pub edge : 256 ≤ b + 256 * (length s - p)
-
--- the mark words of a list of a sort, at a kind that admits data locations or not
-abbrev pub marksBy : Sort → Bool → List (Entry ℕ)
-marksBy Plain l = []
-marksBy Parameter true = locations
-marksBy Parameter false = []
-marksBy Event l = entry (ascii "indexed") indexed ∷ []
 
 -- what a table says of a word, and 256 if nothing
 abbrev pub orNone : Option ℕ → ℕ

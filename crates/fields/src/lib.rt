@@ -1,7 +1,11 @@
 // The field, tuple and list readers: one pass over the text into a buffer of the caller's that has room. What is read is written where it stands
 // in the record; what a failed reading leaves behind its place is not told.
+use model::CALLDATA;
+use model::INDEXED;
+use model::MEMORY;
 use model::Refusal;
 use model::Sort;
+use model::UNMARKED;
 use text::Maybe;
 use value::Base;
 use value::RunKind;
@@ -50,38 +54,41 @@ fn look_far(s: &[u8], at: usize) -> Seen
     }
 }
 
-// The mark that a word stands for in a list of a sort, and 256 if it is none. Data locations are looked for only at kinds that admit them.
+// What stands for a word that is no mark word.
+const NO_MARK: usize = 256;
+
+// The mark that a word stands for in a list of a sort. Data locations are looked for only at kinds that admit them.
 pub fn mark_of(w: &[u8], sort: Sort, located: bool) -> usize
     ensures { λ r. ⌜ r ≡ markOf sort located (now (w .entry)) ⌝ }
 {
     match sort {
-        Sort::Plain => 256,
+        Sort::Plain => NO_MARK,
         Sort::Parameter => {
             if located {
                 return location(w);
             }
-            256
+            NO_MARK
         }
         Sort::Event => {
             if text::equal(b"indexed", w) {
-                return 1;
+                return INDEXED;
             }
-            256
+            NO_MARK
         }
     }
 }
 
-// `calldata` and `memory` are read and forgotten.
+// The mark that a data location stands for: "2 calldata, 3 memory".
 fn location(w: &[u8]) -> usize
     ensures { λ r. ⌜ r ≡ locationOf (now (w .entry)) ⌝ }
 {
     if text::equal(b"calldata", w) {
-        return 0;
+        return CALLDATA;
     }
     if text::equal(b"memory", w) {
-        return 0;
+        return MEMORY;
     }
-    256
+    NO_MARK
 }
 
 // What stands behind a kind: a mark and a name, both optional, and the place behind them.
@@ -99,8 +106,8 @@ pub fn mark_name(s: &[u8], at: usize, sort: Sort, located: bool) -> Named
     let a = text::skip(s, at);
     let e = word_end(s, a);
     let m = mark_of(&s[a..e], sort, located);
-    if m == 256 {
-        return name(a, e, at, 0);
+    if m == NO_MARK {
+        return name(a, e, at, UNMARKED);
     }
     let v = text::skip(s, e);
     name(v, word_end(s, v), e, m)

@@ -21,7 +21,7 @@ use Rattle.model.specs.Tree.{Base, elementary, tuple, Field, field, Fiel
 use Rattle.model.specs.KindText.{longest}
 use Rattle.model.specs.Layout.{littleEndian}
 use Rattle.model.specs.Record.{encodeElementary, encodeSuffix, encodeSuffixes, encodeName, encodeBase, encodeField, encodeFields, encodeList, encode, isSuffix, isMark, isFieldName, isBase, isField, areFields, isDeclaration, wellFormed, wellFormedField, longestRecord, decode, decodeLone}
-use Rattle.model.specs.Reading.{deepest}
+use Rattle.model.specs.Reading.{marks, deepest}
 use Rattle.model.specs.Line.{canonicalText, signatureText, fieldText}
 use Rattle.model.specs.Answer.{Output, writes, refuses}
 use Rattle.model.specs.Calls.{canonicalOutput, signatureOutput, kindTextOutput, ofRecord, orWrongSort}
@@ -64,11 +64,11 @@ arrays-short (s ∷ ss) k h =
 module _ (sort : Sort) (d m : ℕ) (nm : List ℕ) (b : Base) (ss : List Suffix) (h : isField sort d (field m nm b ss) ≡ true) where
   its-base : isBase d b ≡ true
   unfolding isField
-  its-base = left (all isSuffix ss) (right (isFieldName nm) (right (isMark sort m nm) h))
+  its-base = left (all isSuffix ss) (right (isFieldName nm) (right (isMark (marks sort (record { base = b; suffixes = ss })) m nm) h))
 
   its-suffixes : all isSuffix ss ≡ true
   unfolding isField
-  its-suffixes = right (isBase d b) (right (isFieldName nm) (right (isMark sort m nm) h))
+  its-suffixes = right (isBase d b) (right (isFieldName nm) (right (isMark (marks sort (record { base = b; suffixes = ss })) m nm) h))
 
   field-by : length (kindText (baseKind b)) ≤ 2 * length (encodeBase 4 b) → length (kindText (kindOf (field m nm b ss))) + 28 ≤ 2 * length (encodeField 4 (field m nm b ss))
   unfolding kindOf

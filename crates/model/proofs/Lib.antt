@@ -4,6 +4,7 @@ pub mod Edges
 pub mod Worked
 pub mod Holds
 pub mod Bounds
+pub mod Marks
 pub mod Readers
 pub mod Sound
 pub mod Suffixes

@@ -1,7 +1,7 @@
 -- What is written of a field is read back as that field, with anything behind.
 -- Assumes nothing.
 use mathlib.Core.Path.{_≡_, refl, sym, _∙_, ap}
-use mathlib.Core.Bool.{Bool, true, false, _&&_, _||_, not, false≢true, or-true}
+use mathlib.Core.Bool.{Bool, true, false, _&&_, _||_, false≢true}
 use mathlib.Core.List.{List, [], _∷_, _++_, append-assoc}
 use mathlib.Core.Option.{Option, none, some}
 use Prim.Native.Nat.{ℕ, zero, suc, _+_, _≤_}
@@ -10,21 +10,22 @@ use lib.Dec.{eqb}
 use lib.ListN.{length, drop, length-append, length-drop}
 use lib.Seq.{take-append-seam}
 use borrow.Author.Tests.{ne-eqb, eqb-true, leb-true}
-use Rattle.kinds.specs.Bytes.{ascii, space, comma, lparen, rparen, lbracket, rbracket, all, same, isDigit, isLetter, isWordByte}
+use Rattle.kinds.specs.Bytes.{space, comma, lparen, rparen, lbracket, rbracket, all, isDigit, isLetter, isWordByte, isWord}
 use Rattle.kinds.specs.Kind.{isElementary, Elementary, Suffix, sized, unsized, suffixText}
-use Rattle.kinds.proofs.Logic.{both, left, right, letter-word}
+use Rattle.kinds.proofs.Logic.{left, right, letter-word}
 use Rattle.kinds.proofs.Decimal.{decimal-cons, written-read-plain}
 use Rattle.model.specs.declared.Refusal.the-variants.{ExpectClose, Unknown}
 use Rattle.model.specs.declared.Sort.{Sort}
-use Rattle.model.specs.declared.Sort.the-variants.{Plain, Parameter, Event}
+use Rattle.model.specs.declared.Sort.the-variants.{Plain}
 use Rattle.model.specs.Text.{span, one, blank, skip, runByte}
-use Rattle.model.specs.Tree.{Base, elementary, tuple, Field, field, Fields, noField, moreFields, unmarked, indexed}
-use Rattle.model.specs.KindText.{lookup, longest, cutLast, peel, withNumber, fromStrIn, fromStr}
+use Rattle.model.specs.Tree.{Base, elementary, tuple, Field, field, Fields, noField, moreFields, unmarked}
+use Rattle.model.specs.KindText.{Entry, lookup, longest, cutLast, peel, withNumber, fromStrIn, fromStr}
 use Rattle.model.specs.Parser.{found, missing, got, bad, Parser, onAns, then, look, option, optionalName}
-use Rattle.model.specs.Reading.{FieldKind, ofRun, runKind, ofDigits, arraySuffix, suffixesIn, suffixes, fieldKind, marks, fieldBy, closing, follow, rest, list, tupleKind}
-use Rattle.model.specs.Record.{isFieldName, isSuffix, isMark, isBase, isField, areFields}
-use Rattle.model.specs.Written.{suffixesText, markText, nameText, writtenBase, writtenField, writtenList, writtenRest, isAbsent, isNamed, areNamed, SpellsElementary, itself}
+use Rattle.model.specs.Reading.{FieldKind, ofRun, runKind, ofDigits, arraySuffix, suffixesIn, suffixes, fieldKind, canSpecifyLocation, marksBy, marks, fieldBy, closing, follow, rest, list, tupleKind}
+use Rattle.model.specs.Record.{isFieldName, isAbsent, hasMark, isSuffix, isMark, isBase, isField, areFields}
+use Rattle.model.specs.Written.{suffixesText, nameText, markWord, markText, writtenBase, writtenField, writtenList, writtenRest, SpellsElementary, itself}
 use Rattle.model.proofs.Scans.{stands-past, span-none, span-bytes, peek-byte, skip-none, blank-space, blank-plain, blank-word, isRunByte, run-written}
+use Rattle.model.proofs.Marks.{either, mark-worded, mark-found, mark-named}
 use Rattle.model.proofs.Stands.{isQuiet, quiet, Reads, reads-then, reads-on, reads-return, reads-char, look-here, look-absent, look-spaced, word-spaced, reads-name, option-there, option-absent}
 use Rattle.model.proofs.KindBack.{inner, suffix-inner, inner-digits, suffixes-long, spelled-suffixes, spelled-word, spelled-run}
 
@@ -55,51 +56,22 @@ absent-none : {A : Type 0} (o : Option A) → isAbsent o ≡ true → o ≡ none
 absent-none none h = refl
 absent-none (some a) h = absurd (false≢true h)
 
-mark-zero : (sort : Sort) (m : ℕ) (nm : List ℕ) → isMark sort m nm ≡ true → eqb m indexed ≡ false → m ≡ unmarked
+module _ (es : List (Entry ℕ)) (m : ℕ) (nm r : List ℕ) (i : isEnd r ≡ true) where
+  -- a word of a table that stands for the mark, in front of a name
+  word-there : (w : List ℕ) → isWord w ≡ true → lookup es w ≡ some m → Reads (option es unmarked) (nameText w) (nameText nm ++ r) m
+  word-there [] g l = absurd (false≢true g)
+  word-there (c ∷ w) g l = option-there es unmarked m (space ∷ c ∷ w) (nameText nm ++ r) (c ∷ w) (word-spaced (c ∷ w) (nameText nm ++ r) g (name-behind nm r i)) l
+
+  -- no mark, in front of a name that is no word of a table
+  word-absent : isFieldName nm ≡ true → (eqb m unmarked && isAbsent (lookup es nm)) ≡ true → Reads (option es unmarked) (markText m) (nameText nm ++ r) m
+  word-absent n h = rw (eqb-true m unmarked (left _ h)) (option-absent es unmarked nm r n (end-quiet r i) (absent-none _ (right (eqb m unmarked) h)))
+
+reads-mark : (sort : Sort) (l : Bool) (m : ℕ) (nm r : List ℕ) → isMark (marksBy sort l) m nm ≡ true → isFieldName nm ≡ true → isEnd r ≡ true
+    → Reads (option (marksBy sort l) unmarked) (markText m) (nameText nm ++ r) m
 unfolding isMark
-mark-zero Plain m nm h e = eqb-true m unmarked h
-mark-zero Parameter m nm h e = eqb-true m unmarked h
-mark-zero Event m nm h e = eqb-true m unmarked (left _ (rw (isMark, e) at h))
-
-mark-one : (sort : Sort) (nm : List ℕ) → isMark sort indexed nm ≡ true → sort ≡ Event
-unfolding isMark
-mark-one Plain nm h = absurd (false≢true h)
-mark-one Parameter nm h = absurd (false≢true h)
-mark-one Event nm h = refl
-
-reads-mark : (sort : Sort) (k : FieldKind) (m : ℕ) (nm r : List ℕ) → isMark sort m nm ≡ true → isFieldName nm ≡ true → (eqb m indexed || isAbsent (lookup (marks sort k) nm)) ≡ true → isEnd r ≡ true
-    → Reads (option (marks sort k) unmarked) (markText m) (nameText nm ++ r) m
-unfolding marks
-reads-mark sort k m nm r h n q i = go (eqb m indexed) refl
-  where
-    go : (b : Bool) → eqb m indexed ≡ b → Reads (option (marks sort k) unmarked) (markText m) (nameText nm ++ r) m
-    go true f =
-        let one : m ≡ indexed = eqb-true m indexed f in
-        let w : List ℕ = ascii "indexed" in
-        let u : List ℕ = nameText nm ++ r in
-        rw (one, mark-one sort nm (rw one at h)) (option-there (marks Event k) unmarked indexed (space ∷ w) u w (word-spaced w u refl (name-behind nm r i)) refl)
-    go false f = rw (mark-zero sort m nm h f) (option-absent (marks sort k) unmarked nm r n (end-quiet r i) (absent-none _ (rw f at q)))
-
--- names that are no mark words: in a list without marks all, and in an event's all that are well formed
-plain-named : (fs : Fields) → areNamed Plain fs ≡ true
-unfolding areNamed isNamed marks
-plain-named noField = refl
-plain-named (moreFields (field m nm b ss) fs) = both (or-true (eqb m indexed)) (plain-named fs)
-
-event-name : (m : ℕ) (nm : List ℕ) (k : FieldKind) → isMark Event m nm ≡ true → (eqb m indexed || isAbsent (lookup (marks Event k) nm)) ≡ true
-unfolding isMark marks
-event-name m nm k h = go (eqb m indexed) (eqb m unmarked) (same (ascii "indexed") nm) h
-  where
-    go : (a b c : Bool) → (a || (b && not c)) ≡ true → (a || isAbsent {A = ℕ} (elim c [ true ↦ some indexed | false ↦ none ])) ≡ true
-    go true b c q = refl
-    go false b false q = refl
-    go false b true q = right b q
-
-pub event-named : (d : ℕ) (fs : Fields) → areFields Event d fs ≡ true → areNamed Event fs ≡ true
-unfolding areFields areNamed isNamed
-event-named d noField h = refl
-event-named d (moreFields (field m nm b ss) fs) h =
-    both (event-name m nm (record { base = b; suffixes = ss }) (left _ (left _ h))) (event-named d fs (right (isField Event d (field m nm b ss)) h))
+reads-mark sort l m nm r h n i =
+    either (hasMark (marksBy sort l) m) _ h (λ p. word-there (marksBy sort l) m nm r i (markWord m) (mark-worded sort l m p) (mark-found sort l m p))
+    (λ p. word-absent (marksBy sort l) m nm r i n p)
 
 -- Suffixes of a tuple.
 
@@ -141,13 +113,12 @@ tail-word c r h = record {
   shut = λ s at e. look-spaced lbracket s at (c ∷ r) (blank-word c r (letter-word c h)) (ne-eqb c lbracket (λ q. false≢true (ap isLetter (sym q) ∙ h))) e;
 }
 
+tail-name : (w u : List ℕ) → isFieldName w ≡ true → Tail u → Tail (nameText w ++ u)
+tail-name [] u h t = t
+tail-name (c ∷ w) u h t = tail-word c (w ++ u) (left _ h)
+
 tail-field : (m : ℕ) (nm r : List ℕ) → isFieldName nm ≡ true → isEnd r ≡ true → Tail (markText m ++ (nameText nm ++ r))
-tail-field m nm r h i = go (eqb m indexed) nm h
-  where
-    go : (b : Bool) (w : List ℕ) → isFieldName w ≡ true → Tail ((elim b [ true ↦ ascii " indexed" | false ↦ [] ]) ++ (nameText w ++ r))
-    go true w k = tail-word 105 _ refl
-    go false [] k = tail-end r i
-    go false (c ∷ w) k = tail-word c (w ++ r) (left _ k)
+tail-field m nm r h i = tail-name (markWord m) (nameText nm ++ r) (mark-named m) (tail-name nm r h (tail-end r i))
 
 suffixes-there : (ss : List Suffix) (u : List ℕ) (k : ℕ) → all isSuffix ss ≡ true → Tail u → length ss ≤ k → Reads (suffixesIn k) (suffixesText ss) u ss
 unfolding suffixesIn suffixesText arraySuffix onAns
@@ -200,16 +171,16 @@ pub record ReadsBase (b : Base) (t : List ℕ) : Type 0 where
 
 -- with `,` or `)` and anything behind
 pub record ReadsField (f : Field) (t : List ℕ) : Type 0 where
-  pub reads : (sort : Sort) (d : ℕ) → isField sort d f ≡ true → isNamed sort f ≡ true → (r : List ℕ) → isEnd r ≡ true → Reads (fieldBy sort (tupleKind d)) t r f
+  pub reads : (sort : Sort) (d : ℕ) → isField sort d f ≡ true → (r : List ℕ) → isEnd r ≡ true → Reads (fieldBy sort (tupleKind d)) t r f
 
 -- with anything behind
 pub record ReadsList (fs : Fields) (t : List ℕ) : Type 0 where
-  pub reads : (sort : Sort) (d : ℕ) → areFields sort d fs ≡ true → areNamed sort fs ≡ true → (r : List ℕ) → Reads (list (fieldBy sort (tupleKind d))) t r fs
+  pub reads : (sort : Sort) (d : ℕ) → areFields sort d fs ≡ true → (r : List ℕ) → Reads (list (fieldBy sort (tupleKind d))) t r fs
 
 -- the fields behind the first
 pub record ReadsRest (fs : Fields) (t : List ℕ) : Type 0 where
   pub ends : (r : List ℕ) → isEnd (t ++ r) ≡ true
-  pub reads : (sort : Sort) (d : ℕ) → areFields sort d fs ≡ true → areNamed sort fs ≡ true → (r : List ℕ) (k : ℕ) → length t ≤ k
+  pub reads : (sort : Sort) (d : ℕ) → areFields sort d fs ≡ true → (r : List ℕ) (k : ℕ) → length t ≤ k
       → Reads (rest (fieldBy sort (tupleKind d)) k) t r fs
 
 pub base-lone : {e : Elementary} {t : List ℕ} → SpellsElementary e t → ReadsBase (elementary e) t
@@ -234,17 +205,17 @@ base-grouped {fs} {t} l = record { reads = go }
     go (suc d) h ss u k i s at e =
         let b : FieldKind = record { base = tuple fs; suffixes = ss } in
         kind-tuple (tupleKind (suc d)) s at ((t ++ suffixesText ss) ++ u) e
-        ∙ reads-then (list (fieldBy Plain (tupleKind d))) suffixed t (suffixesText ss) u fs b (l .reads Plain d h (plain-named fs) (suffixesText ss ++ u)) (reads-suffixed fs ss u k i)
+        ∙ reads-then (list (fieldBy Plain (tupleKind d))) suffixed t (suffixesText ss) u fs b (l .reads Plain d h (suffixesText ss ++ u)) (reads-suffixed fs ss u k i)
         s (at + 1) (stands-past s at (lparen ∷ []) _ e)
         ∙ ap (got b) (omega arith)
 
 pub field-whole : {b : Base} {t : List ℕ} (m : ℕ) (nm : List ℕ) (ss : List Suffix) → ReadsBase b t → ReadsField (field m nm b ss) (t ++ (suffixesText ss ++ (markText m ++ nameText nm)))
-unfolding fieldBy isField isNamed
+unfolding fieldBy isField marks
 field-whole {b} {t} m nm ss rb = record { reads = go }
   where
-    go : (sort : Sort) (d : ℕ) → isField sort d (field m nm b ss) ≡ true → isNamed sort (field m nm b ss) ≡ true → (r : List ℕ) → isEnd r ≡ true
+    go : (sort : Sort) (d : ℕ) → isField sort d (field m nm b ss) ≡ true → (r : List ℕ) → isEnd r ≡ true
         → Reads (fieldBy sort (tupleKind d)) (t ++ (suffixesText ss ++ (markText m ++ nameText nm))) r (field m nm b ss)
-    go sort d h n r i =
+    go sort d h r i =
         let k : FieldKind = record { base = b; suffixes = ss } in
         let f : Field = field m nm b ss in
         let y : List ℕ = markText m in
@@ -254,7 +225,7 @@ field-whole {b} {t} m nm ss rb = record { reads = go }
         rw (append-assoc y z r) (rb .reads d (search (left, right)) ss (y ++ (z ++ r)) (search (left, right)) (tail-field m nm r named i)) in
         rw (← append-assoc t (suffixesText ss) (y ++ z))
         (reads-then (fieldKind (tupleKind d)) _ (t ++ suffixesText ss) (y ++ z) r k f kind
-        (reads-then (option (marks sort k) unmarked) _ y z r m f (reads-mark sort k m nm r (left _ h) named n i)
+        (reads-then (option (marks sort k) unmarked) _ y z r m f (reads-mark sort (canSpecifyLocation b ss) m nm r (left _ h) named i)
         (reads-on optionalName _ z r nm f (reads-name nm r named (end-quiet r i)) (reads-return f r))))
 
 -- the end of a list
@@ -270,11 +241,11 @@ no-field sort T s at r e =
 
 pub list-empty : ReadsList noField (rparen ∷ [])
 unfolding list
-list-empty = record { reads = λ sort d h n r s at e. rw (list, no-field sort (tupleKind d) s at r e) (closing-here s at r e) }
+list-empty = record { reads = λ sort d h r s at e. rw (list, no-field sort (tupleKind d) s at r e) (closing-here s at r e) }
 
 pub rest-empty : ReadsRest noField (rparen ∷ [])
 unfolding rest
-rest-empty = record { ends = λ r. refl; reads = λ sort d h n r. go sort d r }
+rest-empty = record { ends = λ r. refl; reads = λ sort d h r. go sort d r }
   where
     go : (sort : Sort) (d : ℕ) (r : List ℕ) (k : ℕ) → 1 ≤ k → Reads (rest (fieldBy sort (tupleKind d)) k) (rparen ∷ []) r noField
     go sort d r zero l s at e = absurd (omega arith)
@@ -282,14 +253,14 @@ rest-empty = record { ends = λ r. refl; reads = λ sort d h n r. go sort d r }
 
 -- a field and those behind it
 module _ {f : Field} {fs : Fields} {t u : List ℕ} (rf : ReadsField f t) (rs : ReadsRest fs u) (sort : Sort) (d : ℕ)
-    (h : areFields sort d (moreFields f fs) ≡ true) (m : areNamed sort (moreFields f fs) ≡ true) (r : List ℕ) where
+    (h : areFields sort d (moreFields f fs) ≡ true) (r : List ℕ) where
   follows : (s : List ℕ) (at n k : ℕ) → length u ≤ k → drop n s ≡ (t ++ u) ++ r
       → follow (rest (fieldBy sort (tupleKind d)) k s) s at (fieldBy sort (tupleKind d) s n) ≡ got (moreFields f fs) (n + length (t ++ u))
-  unfolding areFields areNamed onAns
+  unfolding areFields onAns
   follows s at n k l e =
       let a : drop n s ≡ t ++ (u ++ r) = e ∙ append-assoc t u r in
-      let one = rf .reads sort d (left _ h) (left _ m) (u ++ r) (rs .ends r) s n a in
-      let others = rs .reads sort d (right (isField sort d f) h) (right (isNamed sort f) m) r k l s (n + length t) (stands-past s n t (u ++ r) a) in
+      let one = rf .reads sort d (left _ h) (u ++ r) (rs .ends r) s n a in
+      let others = rs .reads sort d (right (isField sort d f) h) r k l s (n + length t) (stands-past s n t (u ++ r) a) in
       rw (one, others) (ap (got (moreFields f fs)) (omega (arith, length-append t u)))
 
   list-follows : Reads (list (fieldBy sort (tupleKind d))) (t ++ u) r (moreFields f fs)

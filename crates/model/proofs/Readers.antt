@@ -1,7 +1,7 @@
 -- Each reader: what it reads is valid, its record takes at most 10 bytes for each byte read, and places lie within the text.
 -- Assumes nothing.
 use mathlib.Core.Path.{_≡_, refl, sym, ap, subst}
-use mathlib.Core.Bool.{Bool, true, false, _&&_, not}
+use mathlib.Core.Bool.{Bool, true, false, _&&_, or-true}
 use mathlib.Core.List.{List, [], _∷_}
 use mathlib.Core.Option.{Option, none, some}
 use Prim.Native.Nat.{ℕ, zero, suc, _+_, _*_, _≤_, _<_}
@@ -10,21 +10,22 @@ use lib.Dec.{eqb, lit<}
 use lib.ListN.{length, take, drop, length-append, length-drop}
 use lib.Seq.{length-take-le}
 use borrow.Author.Tests.{eqb-true}
-use Rattle.kinds.specs.Bytes.{ascii, comma, lparen, rparen, lbracket, rbracket, semicolon, all, same, isDigit, isLetter, isWordByte, isWord}
+use Rattle.kinds.specs.Bytes.{ascii, comma, lparen, rparen, lbracket, rbracket, semicolon, all, isDigit, isLetter, isWordByte, isWord}
 use Rattle.kinds.specs.Kind.{Suffix}
 use Rattle.kinds.proofs.Logic.{both}
 use Rattle.model.specs.declared.Refusal.{Refusal}
 use Rattle.model.specs.declared.Refusal.the-variants.{ExpectOpen, ExpectClose}
 use Rattle.model.specs.declared.Sort.{Sort}
-use Rattle.model.specs.declared.Sort.the-variants.{Plain, Parameter, Event}
+use Rattle.model.specs.declared.Sort.the-variants.{Plain, Parameter}
 use Rattle.model.specs.Text.{spanFrom, span, one, skip, peek, wordLength, runByte, runLength, part}
-use Rattle.model.specs.Tree.{tuple, Field, field, Fields, noField, moreFields, unmarked, indexed}
+use Rattle.model.specs.Tree.{tuple, Field, field, Fields, noField, moreFields, unmarked}
 use Rattle.model.specs.KindText.{Result, ok, err, Entry, entry, lookup, Spelled, fromStr}
 use Rattle.model.specs.Parser.{Found, Ans, Parser, orElse, look, whyNot, takeChar, word, wordEnd, foundBy, keywordOf, isIdent, lookIdent, ident, keyword, option, optionalName, end}
-use Rattle.model.specs.Reading.{FieldKind, ofRun, runKind, ofDigits, closed, opened, arraySuffix, suffixesBy, suffixesIn, suffixes, fieldKind, canSpecifyLocation, locations, marks, fieldBy, closing, follow, restBy, rest, list, tupleKind, deepest, fields, returnsBy, returns}
-use Rattle.model.specs.Record.{encodeSuffix, encodeSuffixes, encodeBase, encodeField, encodeFields, isFieldName, isSuffix, isMark, isBase, isField, areFields, areInputs}
+use Rattle.model.specs.Reading.{FieldKind, ofRun, runKind, ofDigits, closed, opened, arraySuffix, suffixesBy, suffixesIn, suffixes, fieldKind, marks, fieldBy, closing, follow, restBy, rest, list, tupleKind, deepest, fields, returnsBy, returns}
+use Rattle.model.specs.Record.{encodeSuffix, encodeSuffixes, encodeBase, encodeField, encodeFields, isFieldName, isSuffix, hasMark, isMark, isBase, isField, areFields, areInputs}
 use Rattle.model.proofs.Scans.{span-le, peek-inside, skip-le, skip-within}
 use Rattle.model.proofs.Holds.{Of, reads, refuses, opens, Seen, sees, misses, Finds, Read, Any, OneChar, then-of, on-of, as-of, require-of, or-of, read, gives, finds}
+use Rattle.model.proofs.Marks.{lookup-has}
 use Rattle.model.proofs.Bounds.{tested, In, Right, Entries, lookup-of, Inside, digits-inside, Spells, spelled, record-size, field-size}
 
 -- laws of scanning
@@ -201,24 +202,20 @@ module _ (s : List ℕ) where
       (tested (Of s (OneKind s d p)) (eqb (peek s p) lparen) (λ e. t p (peek-inside s p lparen (eqb-true _ _ e) (lit< tt))) (λ e. run-kind-of s d p (skip-within s at h)))
       (λ k n q. read (q .holds) (omega (arith, skip-le s at)) (q .within))
 
-  -- the mark suits the word behind it: `indexed` is no name where it is a mark
-  mark-of : (sort : Sort) (k : FieldKind) (at : ℕ) → at ≤ length s → Of s (Read s (λ m n. isMark sort m (word s n) ≡ true) (λ _. 0) at) (option (marks sort k) unmarked s at)
-  unfolding marks isMark option keywordOf
-  mark-of Plain k at h = option-of s (λ m. eqb m unmarked ≡ true) [] unmarked at h tt refl
-  mark-of Parameter k at h =
-      tested (λ es. Of s (Read s (λ m _. eqb m unmarked ≡ true) (λ _. 0) at) (option es unmarked s at)) (canSpecifyLocation (k .base) (k .suffixes))
-      (λ _. option-of s (λ m. eqb m unmarked ≡ true) locations unmarked at h (refl, (refl, tt)) refl)
-      (λ _. option-of s (λ m. eqb m unmarked ≡ true) [] unmarked at h tt refl)
-  mark-of Event k at h = let w = word-places s at h in
-      tested (λ o. Of s (Read s (λ m n. isMark Event m (word s n) ≡ true) (λ _. 0) at) (orElse unmarked at (foundBy o (wordEnd s at)))) (same (ascii "indexed") (word s at))
-      (λ e. gives refl (omega arith) (w .1))
-      (λ e. gives (ap not e) (omega arith) h)
+  -- the mark suits the word behind it: a mark word is no name where it is a mark
+  mark-of : (es : List (Entry ℕ)) (at : ℕ) → at ≤ length s → Of s (Read s (λ m n. isMark es m (word s n) ≡ true) (λ _. 0) at) (option es unmarked s at)
+  unfolding isMark option keywordOf
+  mark-of es at h = go (lookup es (word s at)) refl (lookup-has es (word s at))
+    where
+      go : (o : Option ℕ) → lookup es (word s at) ≡ o → In (λ m. hasMark es m ≡ true) o → Of s (Read s (λ m n. isMark es m (word s n) ≡ true) (λ _. 0) at) (orElse unmarked at (foundBy o (wordEnd s at)))
+      go none e i = gives (rw (isMark, e) (or-true (hasMark es unmarked))) (omega arith) h
+      go (some m) e i = let w = word-places s at h in gives (rw (isMark, i)) (omega arith) (w .1)
 
   field-of : (sort : Sort) (T : Parser FieldKind) (d at : ℕ) → ((p : ℕ) → p < length s → Of s (OneKind s d p) (T s p)) → at ≤ length s → Of s (OneField s sort d at) (fieldBy sort T s at)
   unfolding fieldBy isField
   field-of sort T d at t h =
       then-of (field-kind-of T d at t h) (λ k n q.
-      then-of (mark-of sort k n (q .within)) (λ m n₁ r.
+      then-of (mark-of (marks sort k) n (q .within)) (λ m n₁ r.
       then-of (name-of s n₁ (r .within)) (λ nm n₂ u.
       gives (both (rw (← (u .holds)) at (r .holds)) (both (rw (← (u .holds)) at (word-is-name s n₁)) (q .holds))) (omega (arith, field-size m nm (k .base) (k .suffixes))) (u .within))))
 

@@ -17,29 +17,19 @@ use Rattle.model.specs.declared.Sort.{Sort}
 use Rattle.model.specs.declared.Sort.the-variants.{Plain, Parameter, Event}
 use Rattle.model.specs.Tree.{Base, elementary, tuple, Field, field, Fields, noField, moreFields, Declaration}
 use Rattle.model.specs.KindText.{longest}
-use Rattle.model.specs.Reading.{deepest}
+use Rattle.model.specs.Reading.{canSpecifyLocation, marks, deepest}
 use Rattle.model.specs.Layout.{littleEndian, leValue, recordOf, Piece, piece, noPiece, pieceOf}
 use Rattle.model.specs.Record.{encodeElementary, encodeSuffix, encodeSuffixes, encodeName, encodeBase, encodeField, encodeFields, encodeList, encode, isFieldName, isSuffix, isMark, isBase, isField, areFields, isDeclaration, longestRecord, wellFormed, wellFormedField, onOption, when, ended, onPiece, case, elementaryCases, decodeElementary, suffixCases, decodeSuffix, baseFrom, each, decodeSuffixes, fieldFrom, tupleFrom, decodeField, decodeFields, listFrom, nameFrom, functionFrom, constructorFrom, eventFrom, errorFrom, decodeDeclaration, whole, decode, decodeLone}
+use Rattle.model.proofs.Marks.{either, mark-fits}
 use Rattle.model.proofs.Pieces.{Bytes, bytes-nil, bytes-cons, bytes-append, le-length, le-bytes, record-length, record-bytes}
 use Rattle.model.proofs.Decoding.{Sound, Written, Reads, Spells, Part, when-some, given-some, on-some, ended-some, fronted-some, kind-some, number-to, fronted-to, kind-to, reads-part, Lists, each-spells, Sounds, select-sound, number-sound, bare-sound, alone-to, alone-exactly, alone-injective}
 
--- shared logic: one of two tests passes
-either : {Q : Type 0} (a b : Bool) → (a || b) ≡ true → (a ≡ true → Q) → (b ≡ true → Q) → Q
-either true b h f g = f refl
-either false b h f g = g h
-
--- widths, byte lengths and marks fit two bytes
+-- widths and byte lengths fit two bytes
 width-fits : (n : ℕ) → isBitWidth n ≡ true → n < 256 ^ 2
 width-fits n h = omega (arith, leb-true n 256 (right (leb 1 n) (left {a = between 1 256 n} _ h)))
 
 byte-length-fits : (n : ℕ) → isByteLength n ≡ true → n < 256 ^ 2
 byte-length-fits n h = omega (arith, leb-true n 32 (right (leb 1 n) h))
-
-mark-fits : (sort : Sort) (m : ℕ) (nm : List ℕ) → isMark sort m nm ≡ true → m < 256 ^ 2
-unfolding isMark
-mark-fits Plain m nm h = omega (arith, eqb-true m 0 h)
-mark-fits Parameter m nm h = omega (arith, eqb-true m 0 h)
-mark-fits Event m nm h = either (eqb m 1) _ h (λ p. omega (arith, eqb-true m 1 p)) (λ p. omega (arith, eqb-true m 0 (left _ p)))
 
 -- for lengths of any width
 module _ (w : ℕ) where
@@ -127,18 +117,18 @@ module _ (w : ℕ) where
         kind-some w 0x11 (drop 2 body) _ h₁ e₂ (λ nm r₂ c₂ e₃.
         reads-part w B (isBase d) (encodeBase w) R .from r₂ _ a (c₂ .rest) e₃ (λ b r₃ g₃ u₃ h₃ e₄.
         given-some (decodeSuffixes w r₃) _ e₄ (λ ss q e₅.
-        when-some (isMark sort (leValue (take 2 body)) nm && isFieldName nm) _ e₅ (λ g₅ e₆.
-        let (g₁, g₂) = and-eq-true-iff (isMark sort (leValue (take 2 body)) nm) (isFieldName nm) .0 g₅ in
+        when-some (isMark (marks sort (record { base = b; suffixes = ss })) (leValue (take 2 body)) nm && isFieldName nm) _ e₅ (λ g₅ e₆.
+        let (g₁, g₂) = and-eq-true-iff (isMark (marks sort (record { base = b; suffixes = ss })) (leValue (take 2 body)) nm) (isFieldName nm) .0 g₅ in
         let (g₄, u₄) = suffixes-spells .from r₃ ss h₃ q in
         rw (← (Option·some-injective _ _ e₆)) (both g₁ (both g₂ (both g₃ g₄)), cc (eqb-true k 0x10 p))))))))
 
     field-to : (a : Field) → isField sort d a ≡ true → length (encodeField w a) < 256 ^ w → Written w (fieldFrom w sort B) (encodeField w a) a
-    unfolding fieldFrom isField encodeField encodeName
+    unfolding fieldFrom isField marks encodeField encodeName
     field-to (field m nm b ss) g f =
-        let (g₁, i) = and-eq-true-iff (isMark sort m nm) _ .0 g in
+        let (g₁, i) = and-eq-true-iff (isMark (marks sort (record { base = b; suffixes = ss })) m nm) _ .0 g in
         let (g₂, j) = and-eq-true-iff (isFieldName nm) _ .0 i in
         let (g₃, g₄) = and-eq-true-iff (isBase d b) _ .0 j in
-        let small : m < 256 ^ 2 = mark-fits sort m nm g₁ in
+        let small : m < 256 ^ 2 = mark-fits sort (canSpecifyLocation b ss) m nm g₁ in
         let sizes = simp (record-length, length-append, le-length) at f in
         (0x10, _, lit< tt, refl, rw (fronted-to m) (kind-to w 0x11 nm _ _ (lit< tt) (rw record-length (omega arith)) ∙ reads-part w B (isBase d) (encodeBase w) R .to b _ _ g₃ (omega arith) ∙ (rw (suffixes-spells .to ss g₄ (omega arith), g₁, g₂))))
 
@@ -373,7 +363,7 @@ module _ (w : ℕ) where
 
     pub field-bytes : (f : Field) (sort : Sort) (d : ℕ) → isField sort d f ≡ true → Bytes (encodeField w f)
     field-bytes (field m nm b ss) sort d g =
-        let (g₁, i) = and-eq-true-iff (isFieldName nm) _ .0 (right (isMark sort m nm) g) in
+        let (g₁, i) = and-eq-true-iff (isFieldName nm) _ .0 (right (isMark (marks sort (record { base = b; suffixes = ss })) m nm) g) in
         record-bytes w 0x10 _ (bytes-append _ _ (le-bytes 2 m) (bytes-append _ _ (name-bytes nm (field-name-bytes nm g₁)) (bytes-append _ _ (base-bytes b d (left _ i)) (suffixes-bytes ss))))
 
     fields-bytes : (fs : Fields) (sort : Sort) (d : ℕ) → areFields sort d fs ≡ true → Bytes (encodeFields w fs)

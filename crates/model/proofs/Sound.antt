@@ -22,7 +22,7 @@ use Rattle.model.specs.Text.{peek, validLength}
 use Rattle.model.specs.Tree.{Base, elementary, tuple, Field, field, Fields, noField, moreFields, isPayable, notStated, Declaration, arrays, baseKind, kindOf, kindsOf, nameKinds}
 use Rattle.model.specs.KindText.{Result, ok, err, entry, Spelled, fromStr}
 use Rattle.model.specs.Parser.{Ans, got, bad, deep, word}
-use Rattle.model.specs.Reading.{mutabilities, deepest, keywordText, function, constructor, event, error, exec, parserOf, wanted, readBy, readDeclaration, longestText, keywords, openingOf, admit, parse}
+use Rattle.model.specs.Reading.{mutabilities, deepest, keywordText, function, constructor, event, error, exec, parserOf, wanted, readBy, readDeclaration, longestText, keywords, openingOf, admit, parse, marks}
 use Rattle.model.specs.Layout.{littleEndian}
 use Rattle.model.specs.Record.{encode, encodeName, encodeList, encodeField, isMark, encodeBase, isBase, isField, areFields, isDeclaration, longestRecord, wellFormed, wellFormedField}
 use Rattle.model.specs.Line.{keywordIn}
@@ -182,7 +182,7 @@ pub record AcceptsKind (s : List ℕ) (f : Field) (n : ℕ) : Type 0 where
   pub short : length s ≤ longestText
 
 kind-of : (s : List ℕ) → Of s (AcceptsKind s) (admit readKind s)
-unfolding readKind isField isMark isBase encodeBase
+unfolding readKind isField isMark marks isBase encodeBase
 kind-of s = admit-of s readKind (λ l. tested (Of s (AcceptsKind s)) (eqb (peek s 0) lparen) (λ _. refuses-at zero-le) (λ _. go l (fromStr s) (spelled s)))
   where
     go : length s ≤ longestText → (r : Result Spelled) → Right (Spells s) r → Of s (AcceptsKind s) (loneField r)

@@ -12,11 +12,11 @@ use Rattle.kinds.proofs.Logic.{both, left, right, all-append}
 use Rattle.model.specs.declared.Sort.{Sort}
 use Rattle.model.specs.declared.Sort.the-variants.{Plain, Parameter, Event}
 use Rattle.model.specs.Tree.{Base, elementary, tuple, Field, field, Fields, noField, moreFields, unmarked, arrays, baseKind, kindOf, kindsOf}
-use Rattle.model.specs.Reading.{canSpecifyLocation, marks, fieldBy, list, tupleKind, longestText, admit}
+use Rattle.model.specs.Reading.{canSpecifyLocation, marksBy, marks, fieldBy, list, tupleKind, longestText, admit}
 use Rattle.model.specs.Calls.{readKind}
 use Rattle.model.specs.Parser.{got}
 use Rattle.model.specs.Record.{isSuffix, isMark, isBase, isField, areFields}
-use Rattle.model.specs.Written.{suffixesText, isNamed, areNamed, SpellsElementary, itself, SpellsKind, SpellsList, SpellsRest, fits, allFit}
+use Rattle.model.specs.Written.{suffixesText, SpellsElementary, itself, SpellsKind, SpellsList, SpellsRest, fits, allFit}
 use Rattle.model.proofs.Stands.{first, peek-first, admit-ascii, Reads}
 use Rattle.model.proofs.KindBack.{spelled-suffixes, spelled-word, word-ascii, suffix-ascii}
 use Rattle.model.proofs.Readback.{isEnd, ReadsBase, ReadsField, ReadsList, ReadsRest, base-lone, base-grouped, field-whole, list-empty, list-more, rest-empty, rest-more}
@@ -61,15 +61,16 @@ mutual
   kinds-fields (moreKinds k ks) = ap₂ moreKinds (kind-field k) (kinds-fields ks)
 
 -- they are well formed, in lists of every sort
-bare-mark : (sort : Sort) → isMark sort unmarked [] ≡ true
+bare-mark : (sort : Sort) (l : Bool) → isMark (marksBy sort l) unmarked [] ≡ true
 unfolding isMark
-bare-mark Plain = refl
-bare-mark Parameter = refl
-bare-mark Event = refl
+bare-mark Plain l = refl
+bare-mark Parameter true = refl
+bare-mark Parameter false = refl
+bare-mark Event l = refl
 
 bare-field : (sort : Sort) (d : ℕ) (b : Base) (ss : List Suffix) → (isBase d b ≡ true) × (all isSuffix ss ≡ true) → isField sort d (field unmarked [] b ss) ≡ true
-unfolding isField
-bare-field sort d b ss h = both (bare-mark sort) (both (h .0) (h .1))
+unfolding isField marks
+bare-field sort d b ss h = both (bare-mark sort (canSpecifyLocation b ss)) (both (h .0) (h .1))
 
 mutual
   unfolding suffixesOf baseOf isKind fits isBase
@@ -86,21 +87,6 @@ mutual
   fields-formed noKind sort d h f = refl
   fields-formed (moreKinds k ks) sort d h f =
       both (bare-field sort d (baseOf k) (suffixesOf k) (base-formed k d (left _ h) (left _ f))) (fields-formed ks sort d (right (isKind k) h) (right (fits d k) f))
-
-bare-named : (sort : Sort) (b : Base) (ss : List Suffix) → isNamed sort (field unmarked [] b ss) ≡ true
-unfolding isNamed marks
-bare-named Plain b ss = refl
-bare-named Parameter b ss = go (canSpecifyLocation b ss) refl
-  where
-    go : (x : Bool) → canSpecifyLocation b ss ≡ x → isNamed Parameter (field unmarked [] b ss) ≡ true
-    go true e = rw (marks, e)
-    go false e = rw (marks, e)
-bare-named Event b ss = refl
-
-fields-named : (ks : Kinds) (sort : Sort) → areNamed sort (fieldsOf ks) ≡ true
-unfolding areNamed fieldsOf
-fields-named noKind sort = refl
-fields-named (moreKinds k ks) sort = both (bare-named sort (baseOf k) (suffixesOf k)) (fields-named ks sort)
 
 -- Spellings.
 
@@ -163,12 +149,12 @@ mutual
 pub kind-spelled : (k : Kind) (t : List ℕ) → SpellsKind k t → (sort : Sort) (d : ℕ) → isKind k ≡ true → fits d k ≡ true → (r : List ℕ) → isEnd r ≡ true
     → Reads (fieldBy sort (tupleKind d)) t r (fieldOf k)
 kind-spelled k t w sort d h f r i =
-    parts-field (parts k t w) .reads sort d (bare-field sort d (baseOf k) (suffixesOf k) (base-formed k d h f)) (bare-named sort (baseOf k) (suffixesOf k)) r i
+    parts-field (parts k t w) .reads sort d (bare-field sort d (baseOf k) (suffixesOf k) (base-formed k d h f)) r i
 
 -- the kinds of a list of any sort, with anything behind
 pub kinds-spelled : (ks : Kinds) (t : List ℕ) → SpellsList ks t → (sort : Sort) (d : ℕ) → areKinds ks ≡ true → allFit d ks ≡ true → (r : List ℕ)
     → Reads (list (fieldBy sort (tupleKind d))) t r (fieldsOf ks)
-kinds-spelled ks t w sort d h f r = list-parts ks t w .reads sort d (fields-formed ks sort d h f) (fields-named ks sort) r
+kinds-spelled ks t w sort d h f r = list-parts ks t w .reads sort d (fields-formed ks sort d h f) r
 
 -- The kind call.
 

@@ -1,17 +1,21 @@
 -- Worked examples beside the table of edges, for what it does not touch.
 -- Assumes nothing.
 use mathlib.Core.Path.{_≡_, refl}
+use mathlib.Core.Bool.{Bool, true, false}
 use mathlib.Core.List.{List, [], _∷_, _++_}
 use mathlib.Core.Option.{some}
 use Prim.Native.Nat.{ℕ}
+use Prim.Native.String.{String}
 use Rattle.kinds.specs.Bytes.{ascii}
-use Rattle.kinds.specs.Kind.{bits, uint, string, sized, unsized, Kind}
+use Rattle.kinds.specs.Kind.{bits, Elementary, uint, bool, string, sized, unsized, Kind}
 use Rattle.model.specs.declared.Call.the-variants as call
+use Rattle.model.specs.declared.Sort.{Sort}
+use Rattle.model.specs.declared.Sort.the-variants.{Plain, Parameter, Event}
 use Rattle.model.specs.Text.{skip, runLength, validLength}
 use Rattle.model.specs.Tree.{elementary, tuple, field, noField, moreFields, Declaration, kindOf}
 use Rattle.model.specs.Parser.{got}
 use Rattle.model.specs.Reading.{parse}
-use Rattle.model.specs.Record.{decode}
+use Rattle.model.specs.Record.{isField, decode}
 use Rattle.model.specs.Answer.{writes, accepted, refused, outcome, after}
 use Rattle.model.specs.Calls.{readOutput, readKind, canonicalOutput, signatureOutput, nameOutput}
 use Rattle.model.specs.Message.{messageOutput}
@@ -74,10 +78,32 @@ word-error : (outcome 1000 (readOutput call.General (ascii "function ()")) ≡ r
 unfolding evaluation
 word-error = (refl, refl)
 
--- `indexed` is a mark in an event's own list, and a name inside its tuple; `memory` is forgotten at `string`, and a name at `uint`
-mark-words : (parse call.General (ascii "event E((bool indexed) indexed)") ≡ got (Declaration.event 0 (ascii "E") (moreFields (field 1 [] (tuple (moreFields (field 0 (ascii "indexed") (elementary Rattle.kinds.specs.Kind.bool) []) noField)) []) noField)) 31) × (parse call.General (ascii "error e(uint memory)") ≡ got (Declaration.error (ascii "e") (moreFields (field 0 (ascii "memory") (elementary (uint (bits 256))) []) noField)) 20) × (parse call.General (ascii "constructor(string memory)") ≡ got (Declaration.constructor 2 (moreFields (field 0 [] (elementary string) []) noField)) 26)
+-- `indexed` is a mark in an event's own list, and a name inside its tuple; `memory` is a mark at `string` in a constructor's, and a name at `uint`
+mark-words : (parse call.General (ascii "event E((bool indexed) indexed)") ≡ got (Declaration.event 0 (ascii "E") (moreFields (field 1 [] (tuple (moreFields (field 0 (ascii "indexed") (elementary bool) []) noField)) []) noField)) 31) × (parse call.General (ascii "error e(uint memory)") ≡ got (Declaration.error (ascii "e") (moreFields (field 0 (ascii "memory") (elementary (uint (bits 256))) []) noField)) 20) × (parse call.General (ascii "constructor(string memory)") ≡ got (Declaration.constructor 2 (moreFields (field 3 [] (elementary string) []) noField)) 26)
 unfolding evaluation
 mark-words = (refl, refl, refl)
+
+-- the marks from 0 to 4 that a field of a list may have, at a kind without suffixes and with a name
+abbrev those : (ℕ → Bool) → List ℕ → List ℕ
+those p [] = []
+those p (m ∷ ms) = elim (p m) [ true ↦ m ∷ those p ms | false ↦ those p ms ]
+
+abbrev marksOf : Sort → Elementary → String → List ℕ
+marksOf sort e nm = those (λ m. isField sort 0 (field m (ascii nm) (elementary e) [])) (0 ∷ 1 ∷ 2 ∷ 3 ∷ 4 ∷ [])
+
+-- in a function's own list: at `string`, which admits a data location, and at `bool`, which does not
+marks-located : (marksOf Parameter string "" ≡ 0 ∷ 2 ∷ 3 ∷ []) × (marksOf Parameter string "a" ≡ 0 ∷ 2 ∷ 3 ∷ []) × (marksOf Parameter string "memory" ≡ 2 ∷ 3 ∷ []) × (marksOf Parameter string "calldata" ≡ 2 ∷ 3 ∷ []) × (marksOf Parameter string "indexed" ≡ 0 ∷ 2 ∷ 3 ∷ [])
+unfolding evaluation
+marks-located = (refl, refl, refl, refl, refl)
+
+marks-unlocated : (marksOf Parameter bool "" ≡ 0 ∷ []) × (marksOf Parameter bool "a" ≡ 0 ∷ []) × (marksOf Parameter bool "memory" ≡ 0 ∷ []) × (marksOf Parameter bool "calldata" ≡ 0 ∷ [])
+unfolding evaluation
+marks-unlocated = (refl, refl, refl, refl)
+
+-- in a tuple or an error's list, and in an event's, at `string` all the same
+marks-elsewhere : (marksOf Plain string "" ≡ 0 ∷ []) × (marksOf Plain string "memory" ≡ 0 ∷ []) × (marksOf Plain string "indexed" ≡ 0 ∷ []) × (marksOf Event string "" ≡ 0 ∷ 1 ∷ []) × (marksOf Event string "memory" ≡ 0 ∷ 1 ∷ []) × (marksOf Event string "indexed" ≡ 1 ∷ [])
+unfolding evaluation
+marks-elsewhere = (refl, refl, refl, refl, refl, refl)
 
 message : messageOutput call.General (ascii "function ()") ≡ writes (ascii "expected identifier at position 8(\"function| ()\")")
 unfolding evaluation

@@ -17,7 +17,7 @@ use Rattle.model.specs.declared.Call.the-variants as call
 use Rattle.model.specs.declared.Sort.{Sort}
 use Rattle.model.specs.declared.Sort.the-variants.{Plain, Parameter, Event}
 use Rattle.model.specs.Text.{span, one, skip, peek, runLength, part, validLength}
-use Rattle.model.specs.Tree.{Base, elementary, tuple, Field, field, Fields, noField, moreFields, unmarked, indexed, isPure, isView, notStated, isPayable, Declaration}
+use Rattle.model.specs.Tree.{Base, elementary, tuple, Field, field, Fields, noField, moreFields, unmarked, indexed, inCalldata, inMemory, isPure, isView, notStated, isPayable, Declaration}
 use Rattle.model.specs.KindText.{Result, ok, err, Entry, entry, longest, sizedBy, starts, Spelled, fromStr}
 use Rattle.model.specs.Parser.{Found, found, missing, Ans, got, bad, deep, Parser, onAns, then, _>>=_, _>>_, return, look, takeChar, keywordOf, ident, keyword, option, optionalName, end}
 
@@ -88,16 +88,25 @@ canSpecifyLocation (elementary e) [] = isLocated e
 canSpecifyLocation (tuple fs) [] = true
 canSpecifyLocation b (o ∷ ss) = true
 
--- "In function and constructor lists it is `calldata` or `memory` ... and forgotten."
+-- "In function and constructor lists it is `calldata` or `memory`". Order 1: "Keep the place word."
 abbrev pub locations : List (Entry ℕ)
-locations = entry (ascii "calldata") unmarked ∷ entry (ascii "memory") unmarked ∷ []
+locations = entry (ascii "calldata") inCalldata ∷ entry (ascii "memory") inMemory ∷ []
 
--- the mark words of a field and the marks that they stand for: data locations, and the attribute `indexed`.
--- "In an event's own list the mark is `indexed`." "... a tuple holds fields, without marks."
+-- "In an event's own list the mark is `indexed`."
+abbrev pub attributes : List (Entry ℕ)
+attributes = entry (ascii "indexed") indexed ∷ []
+
+-- the mark words of a list of a sort and the marks that they stand for, at a kind that admits data locations or not:
+-- "a tuple holds fields, without marks"
+abbrev pub marksBy : Sort → Bool → List (Entry ℕ)
+marksBy Plain l = []
+marksBy Parameter true = locations
+marksBy Parameter false = []
+marksBy Event l = attributes
+
+-- the mark words of a field
 unfoldable pub marks : Sort → FieldKind → List (Entry ℕ)
-marks Plain k = []
-marks Parameter k = elim (canSpecifyLocation (k .base) (k .suffixes)) [ true ↦ locations | false ↦ [] ]
-marks Event k = entry (ascii "indexed") indexed ∷ []
+marks sort k = marksBy sort (canSpecifyLocation (k .base) (k .suffixes))
 
 -- `field`, `parameter_field` and `event_field`: "A field is a kind, then a mark, then an optional name."
 unfoldable pub fieldBy : Sort → Parser FieldKind → Parser Field

@@ -1,18 +1,18 @@
 -- Records: the encoding of trees, which trees are well formed, and the tree that bytes say.
 -- Assumes nothing.
-use mathlib.Core.Bool.{Bool, true, false, _&&_, _||_, not}
+use mathlib.Core.Bool.{Bool, true, false, _&&_, _||_}
 use mathlib.Core.List.{List, [], _∷_, _++_}
 use mathlib.Core.Option.{Option, none, some}
 use Prim.Native.Nat.{ℕ, zero, suc, _+_}
 use lib.Dec.{leb, eqb}
 use lib.ListN.{length, take, drop}
-use Rattle.kinds.specs.Bytes.{ascii, same, all, between, isWord}
+use Rattle.kinds.specs.Bytes.{all, between, isWord}
 use Rattle.kinds.specs.Kind.{BitWidth, bits, octets, isBitWidth, isByteLength, isElementary, Elementary, int, uint, fixedBytes, address, bool, bytes, string, Suffix, sized, unsized}
 use Rattle.model.specs.declared.Sort.{Sort}
 use Rattle.model.specs.declared.Sort.the-variants.{Plain, Parameter, Event}
-use Rattle.model.specs.Tree.{Base, elementary, tuple, Field, field, Fields, noField, moreFields, unmarked, indexed, Declaration}
-use Rattle.model.specs.KindText.{longest}
-use Rattle.model.specs.Reading.{deepest}
+use Rattle.model.specs.Tree.{Base, elementary, tuple, Field, field, Fields, noField, moreFields, unmarked, Declaration}
+use Rattle.model.specs.KindText.{Entry, entry, lookup, longest}
+use Rattle.model.specs.Reading.{marks, deepest}
 use Rattle.model.specs.Layout.{littleEndian, leValue, recordOf, Piece, piece, noPiece, pieceOf}
 
 -- The encoding, with the width of a length as a parameter. "Kinds in hex".
@@ -78,11 +78,20 @@ abbrev pub isSuffix : Suffix → Bool
 isSuffix (sized n) = leb n longest
 isSuffix unsized = true
 
--- "mark 1 only in an event's own list, and there no mark 0 with the name `indexed`"
-unfoldable pub isMark : Sort → ℕ → List ℕ → Bool
-isMark Plain m nm = eqb m unmarked
-isMark Parameter m nm = eqb m unmarked
-isMark Event m nm = eqb m indexed || (eqb m unmarked && not (same (ascii "indexed") nm))
+abbrev pub isAbsent : {A : Type 0} → Option A → Bool
+isAbsent none = true
+isAbsent (some a) = false
+
+-- whether some word of a table stands for a mark
+abbrev pub hasMark : List (Entry ℕ) → ℕ → Bool
+hasMark [] m = false
+hasMark (entry w n ∷ es) m = eqb m n || hasMark es m
+
+-- "mark 1 only in an event's own list, and there no mark 0 with the name `indexed`". Order 1, of marks 2 and 3: "They stand only in a function's or
+-- constructor's own lists, not inside tuples, at kinds that admit them. Such a field with mark 0 and the name `calldata` or `memory` is no longer
+-- well formed." So, by the mark words of the list and the kind: a mark that one of them stands for, or 0 with a name that is none of them
+unfoldable pub isMark : List (Entry ℕ) → ℕ → List ℕ → Bool
+isMark es m nm = hasMark es m || (eqb m unmarked && isAbsent (lookup es nm))
 
 -- a field of a list of a sort, in which d tuples may nest
 unfoldable mutual
@@ -92,7 +101,7 @@ unfoldable mutual
   isBase (suc d) (tuple fs) = areFields Plain d fs
 
   pub isField : Sort → ℕ → Field → Bool
-  isField sort d (field m nm b ss) = isMark sort m nm && (isFieldName nm && (isBase d b && all isSuffix ss))
+  isField sort d (field m nm b ss) = isMark (marks sort (record { base = b; suffixes = ss })) m nm && (isFieldName nm && (isBase d b && all isSuffix ss))
 
   pub areFields : Sort → ℕ → Fields → Bool
   areFields sort d noField = true
@@ -115,7 +124,7 @@ longestRecord = 40960
 unfoldable pub wellFormed : Declaration → Bool
 wellFormed d = isDeclaration d && leb (length (encode 4 d)) longestRecord
 
--- a field by itself, as the kind call writes it: of no event's list, so with mark 0
+-- a field by itself, as the kind call writes it: of no declaration's own list, so with mark 0
 unfoldable pub wellFormedField : Field → Bool
 wellFormedField f = isField Plain deepest f && leb (length (encodeField 4 f)) longestRecord
 
@@ -222,7 +231,7 @@ module _ (w : ℕ) where
       (fronted body (λ m r.
       ofKind 0x11 (pieceOf w r) (λ nm r₁.
       onPiece (pieceOf w r₁) (λ j base r₂.
-      given (B j base) (λ b. given (decodeSuffixes r₂) (λ ss. when (isMark sort m nm && isFieldName nm) (some (field m nm b ss))))))))
+      given (B j base) (λ b. given (decodeSuffixes r₂) (λ ss. when (isMark (marks sort (record { base = b; suffixes = ss })) m nm && isFieldName nm) (some (field m nm b ss))))))))
 
   -- the fields of a tuple, where d tuples may nest
   unfoldable pub tupleFrom : ℕ → List ℕ → Option Fields

@@ -19,12 +19,18 @@ mutual
     noField : Fields
     moreFields : Field → Fields → Fields
 
--- "mark, 2 bytes (1 indexed, else 0)"
+-- "mark, 2 bytes (1 indexed, else 0)". Order 1: "The field's mark gets two more values: 2 calldata, 3 memory."
 abbrev pub unmarked : ℕ
 unmarked = 0
 
 abbrev pub indexed : ℕ
 indexed = 1
+
+abbrev pub inCalldata : ℕ
+inCalldata = 2
+
+abbrev pub inMemory : ℕ
+inMemory = 3
 
 -- "mutability, 2 bytes (0 pure, 1 view, 2 none stated, 3 payable)"
 abbrev pub isPure : ℕ

@@ -1,33 +1,39 @@
 -- Trees written out: a field in full, and a kind in every spelling of the ABI Specification.
 -- Assumes nothing.
 use mathlib.Core.Path.{_≡_}
-use mathlib.Core.Bool.{Bool, true, false, _&&_, _||_}
+use mathlib.Core.Bool.{Bool, true, false, _&&_}
 use mathlib.Core.List.{List, [], _∷_, _++_}
-use mathlib.Core.Option.{Option, none, some}
 use Prim.Native.Nat.{ℕ, zero, suc}
-use lib.Dec.{eqb}
 use Rattle.kinds.specs.Bytes.{ascii, space, comma, lparen, rparen, plus}
 use Rattle.kinds.specs.Decimal.{decimal}
 use Rattle.kinds.specs.Kind.{bits, octets, Elementary, int, uint, fixedBytes, Suffix, Kind, Kinds, noKind, moreKinds, elementaryText, suffixText}
-use Rattle.model.specs.declared.Sort.{Sort}
-use Rattle.model.specs.Tree.{Base, elementary, tuple, Field, field, Fields, noField, moreFields, indexed}
-use Rattle.model.specs.KindText.{lookup}
-use Rattle.model.specs.Reading.{marks}
-use Rattle.model.specs.Record.{isSuffix}
+use Rattle.model.specs.Tree.{Base, elementary, tuple, Field, field, Fields, noField, moreFields}
+use Rattle.model.specs.KindText.{Entry, entry}
+use Rattle.model.specs.Reading.{locations, attributes}
+use Rattle.model.specs.Record.{Case, case, select, isSuffix}
 
 -- suffixes, innermost first
 unfoldable pub suffixesText : List Suffix → List ℕ
 suffixesText [] = []
 suffixesText (s ∷ ss) = suffixText s ++ suffixesText ss
 
--- a space and the mark word, if any
-abbrev pub markText : ℕ → List ℕ
-markText m = elim (eqb m indexed) [ true ↦ ascii " indexed" | false ↦ [] ]
-
 -- a space and the name, if any
 abbrev pub nameText : List ℕ → List ℕ
 nameText [] = []
 nameText (c ∷ w) = space ∷ c ∷ w
+
+-- the words of a table by the marks that they stand for
+abbrev pub byMark : List (Entry ℕ) → List (Case (List ℕ))
+byMark [] = []
+byMark (entry w m ∷ es) = case m w ∷ byMark es
+
+-- the word that stands for a mark, empty if none does
+abbrev pub markWord : ℕ → List ℕ
+markWord m = select (byMark (attributes ++ locations)) [] m
+
+-- a space and the mark word, if any
+abbrev pub markText : ℕ → List ℕ
+markText m = nameText (markWord m)
 
 -- a field is its kind, then a space and its mark word if any, then a space and its name if any. A tuple's components are written so, and fields are
 -- parted by `,`
@@ -48,18 +54,6 @@ unfoldable mutual
   pub writtenRest : Fields → List ℕ
   writtenRest noField = rparen ∷ []
   writtenRest (moreFields f fs) = comma ∷ (writtenField f ++ writtenRest fs)
-
--- an unmarked field of a list of a sort has no name that is a mark word there
-abbrev pub isAbsent : {A : Type 0} → Option A → Bool
-isAbsent none = true
-isAbsent (some a) = false
-
-unfoldable pub isNamed : Sort → Field → Bool
-isNamed sort (field m nm b ss) = eqb m indexed || isAbsent (lookup (marks sort (record { base = b; suffixes = ss })) nm)
-
-unfoldable pub areNamed : Sort → Fields → Bool
-areNamed sort noField = true
-areNamed sort (moreFields f fs) = isNamed sort f && areNamed sort fs
 
 -- the ABI Specification, section Types: `uint`, `int` are synonyms for `uint256`, `int256`; all else as canonical text has it
 pub data SpellsElementary : Elementary → List ℕ → Type 0 where

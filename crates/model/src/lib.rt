@@ -50,3 +50,12 @@ pub enum Sort {
     Parameter,
     Event,
 }
+
+// The marks of a field, as specs/Tree.antt numbers them.
+pub const UNMARKED: usize = 0;
+
+pub const INDEXED: usize = 1;
+
+pub const CALLDATA: usize = 2;
+
+pub const MEMORY: usize = 3;

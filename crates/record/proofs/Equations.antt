@@ -19,7 +19,9 @@ use Rattle.model.specs.Layout.{leValue, Piece, piece, noPiece, pieceOf}
 use Rattle.model.specs.Record.{isFieldName, isMark, given, onOption, when, onPiece, ofKind, fronted, decodeElementary, decodeSuffix, baseFrom, eachBy, eachIn, decodeSuffixes, fieldFrom, tupleFrom}
 use Rattle.model.specs.Line.{fieldText}
 use Rattle.model.specs.Written.{suffixesText}
-use Rattle.record.specs.Texts.{measured, elementaryFrom, suffixFrom, suffixesFrom, baseTextFrom, kindFrom, fieldTextFrom, fieldsFrom, tupleTextFrom}
+use Rattle.model.specs.Reading.{marksBy, marks}
+use Rattle.record.proofs.Located.{located-same}
+use Rattle.record.specs.Texts.{locatedFrom, isMarkAt, measured, elementaryFrom, suffixFrom, suffixesFrom, baseTextFrom, kindFrom, fieldTextFrom, fieldsFrom, tupleTextFrom}
 use Rattle.record.proofs.Loops.{Steps}
 
 -- no text of a kind or of a suffix is empty
@@ -209,22 +211,22 @@ module _ (m : ℕ) (nm : List ℕ) (t : Bool) where
 
 module _ (sort : Sort) (d : ℕ) where
   abbrev pub namedBy : ℕ → List ℕ → Option (List ℕ)
-  namedBy m r = ofKind 0x11 (pieceOf 4 r) (λ nm r₁. when (isMark sort m nm && isFieldName nm) (kindFrom d r₁))
+  namedBy m r = ofKind 0x11 (pieceOf 4 r) (λ nm r₁. when (isMarkAt sort r₁ m nm && isFieldName nm) (kindFrom d r₁))
 
   named : (m : ℕ) (p : Piece) → onOption fieldText (ofKind 0x11 p (λ nm r₁.
       onPiece (pieceOf 4 r₁) (λ j base r₂.
-      given (baseFrom (tupleFrom 4 d) j base) (λ b. given (decodeSuffixes 4 r₂) (λ ss. when (isMark sort m nm && isFieldName nm) (some (field m nm b ss)))))))
-      ≡ ofKind 0x11 p (λ nm r₁. when (isMark sort m nm && isFieldName nm) (kindFrom d r₁))
-  unfolding kindFrom
+      given (baseFrom (tupleFrom 4 d) j base) (λ b. given (decodeSuffixes 4 r₂) (λ ss. when (isMark (marks sort (record { base = b; suffixes = ss })) m nm && isFieldName nm) (some (field m nm b ss)))))))
+      ≡ ofKind 0x11 p (λ nm r₁. when (isMarkAt sort r₁ m nm && isFieldName nm) (kindFrom d r₁))
+  unfolding kindFrom locatedFrom marks
   named m noPiece = refl
   named m (piece j nm r) = go (eqb j 0x11)
     where
       go : (t : Bool) → onOption fieldText (elim t as (λ _. Option Field) [
-        | true ↦ onPiece (pieceOf 4 r) (λ j base r₂. given (baseFrom (tupleFrom 4 d) j base) (λ b. given (decodeSuffixes 4 r₂) (λ ss. when (isMark sort m nm && isFieldName nm) (some (field m nm b ss)))))
+        | true ↦ onPiece (pieceOf 4 r) (λ j base r₂. given (baseFrom (tupleFrom 4 d) j base) (λ b. given (decodeSuffixes 4 r₂) (λ ss. when (isMark (marks sort (record { base = b; suffixes = ss })) m nm && isFieldName nm) (some (field m nm b ss)))))
         | false ↦ none
       ])
-          ≡ elim t as (λ _. Option (List ℕ)) [ true ↦ when (isMark sort m nm && isFieldName nm) (kindFrom d r) | false ↦ none ]
-      go true = kinded m nm (isMark sort m nm && isFieldName nm) d (pieceOf 4 r)
+          ≡ elim t as (λ _. Option (List ℕ)) [ true ↦ when (isMarkAt sort r m nm && isFieldName nm) (kindFrom d r) | false ↦ none ]
+      go true = ap (onOption fieldText) (located-same (tupleFrom 4 d) (λ l. isMark (marksBy sort l) m nm && isFieldName nm) m nm (pieceOf 4 r)) ∙ kinded m nm (isMarkAt sort r m nm && isFieldName nm) d (pieceOf 4 r)
       go false = refl
 
   pub field-short : (body : List ℕ) → length body < 2 → fieldTextFrom sort d 0x10 body ≡ none

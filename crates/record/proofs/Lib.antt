@@ -1,6 +1,7 @@
 pub mod Heads
 pub mod Lengths
 pub mod Names
+pub mod Located
 pub mod Loops
 pub mod Equations
 pub mod Walk

@@ -1,7 +1,7 @@
 -- Names and marks, by the tests that the code makes.
 -- Assumes nothing.
 use mathlib.Core.Path.{_≡_, refl, sym, _∙_}
-use mathlib.Core.Bool.{Bool, true, false, or-false}
+use mathlib.Core.Bool.{Bool, true, false, _||_, or-false, and-true}
 use mathlib.Core.List.{List, [], _∷_}
 use Prim.Native.Nat.{ℕ, zero, suc, _-_, _≤_, _<_}
 use native.Mathlib.Omega.{arith}
@@ -17,7 +17,10 @@ use Rattle.text.specs.Found.{isAlphabetic}
 use Rattle.text.proofs.Eights.{span-front, alphabetic}
 use Rattle.model.specs.declared.Sort.{Sort}
 use Rattle.model.specs.declared.Sort.the-variants.{Plain, Parameter, Event}
+use Rattle.model.specs.Tree.{inCalldata, inMemory}
+use Rattle.model.specs.Reading.{attributes, marksBy}
 use Rattle.model.specs.Record.{isFieldName, isMark}
+use Rattle.record.specs.Texts.{isFree}
 
 -- the word that bytes begin with has at least n bytes exactly when the first n are a word
 word-front : (n : ℕ) (t : List ℕ) → 0 < n → n ≤ length t → leb n (wordLength t) ≡ isWord (take n t)
@@ -64,34 +67,87 @@ module _ (t : List ℕ) (from to : ℕ) where
       named [] l q = absurd (omega arith)
       named (c ∷ u) l q = q
 
--- marks
-module _ (sort : Sort) (m : ℕ) (nm : List ℕ) where
-  pub mark-plain : sort ≡ Plain → m ≡ 0 → true ≡ isMark sort m nm
-  unfolding isMark
-  mark-plain e f = rw (e, f)
+-- a name that is no data location, where a and b are the code's tests
+module _ (nm : List ℕ) (a : Bool) (f : a ≡ same (ascii "calldata") nm) where
+  pub taken-calldata : a ≡ true → false ≡ isFree nm
+  unfolding isFree
+  taken-calldata e = rw (← f, e)
 
-  pub mark-parameter : sort ≡ Parameter → m ≡ 0 → true ≡ isMark sort m nm
-  unfolding isMark
-  mark-parameter e f = rw (e, f)
+  module _ (b : Bool) (e : a ≡ false) (g : b ≡ same (ascii "memory") nm) where
+    pub taken-memory : b ≡ true → false ≡ isFree nm
+    unfolding isFree
+    taken-memory h = rw (← f, e, ← g, h)
 
-  pub mark-taken : (r : Bool) → sort ≡ Event → m ≡ 0 → r ≡ same (ascii "indexed") nm → r ≡ true → false ≡ isMark sort m nm
-  unfolding isMark
-  mark-taken r e f g h = rw (e, f, ← g, h)
+    pub free-name : b ≡ false → true ≡ isFree nm
+    unfolding isFree
+    free-name h = rw (← f, e, ← g, h)
 
-  pub mark-free : (r : Bool) → sort ≡ Event → m ≡ 0 → r ≡ same (ascii "indexed") nm → r ≡ false → true ≡ isMark sort m nm
-  unfolding isMark
-  mark-free r e f g h = rw (e, f, ← g, h)
+-- a mark of a function's or constructor's own list, where a says whether the name is free, and x whether the kind admits a data location
+module _ (l : Bool) (m : ℕ) (nm : List ℕ) where
+  pub parameter-free : (a : Bool) → m ≡ 0 → a ≡ isFree nm → a ≡ true → true ≡ isMark (marksBy Parameter l) m nm
+  unfolding isMark isFree
+  parameter-free a z e f = go l
+    where
+      go : (l : Bool) → true ≡ isMark (marksBy Parameter l) m nm
+      go true = rw (z, ← e, f)
+      go false = rw z
 
-  pub mark-not-plain : sort ≡ Plain → (m ≡ 0 → ⊥) → false ≡ isMark sort m nm
-  unfolding isMark
-  mark-not-plain e f = rw (e, ne-eqb m 0 f)
+  pub parameter-taken : (a x : Bool) → m ≡ 0 → a ≡ isFree nm → a ≡ false → x ≡ l → x ≡ true → false ≡ isMark (marksBy Parameter l) m nm
+  unfolding isMark isFree
+  parameter-taken a x z e f g h = rw (← g, h, z, ← e, f)
 
-  pub mark-not-parameter : sort ≡ Parameter → (m ≡ 0 → ⊥) → false ≡ isMark sort m nm
-  unfolding isMark
-  mark-not-parameter e f = rw (e, ne-eqb m 0 f)
+  module _ (x : Bool) (e : x ≡ l) where
+    pub parameter-unlocated : m ≡ 0 → x ≡ false → true ≡ isMark (marksBy Parameter l) m nm
+    unfolding isMark
+    parameter-unlocated z f = rw (← e, f, z)
 
-  pub mark-indexed : sort ≡ Event → (m ≡ 0 → ⊥) → eqb m 1 ≡ isMark sort m nm
-  unfolding isMark
-  mark-indexed e f = rw (e, ne-eqb m 0 f) (sym (or-false (eqb m 1)))
+    placed : isMark (marksBy Parameter true) m nm ≡ true → isMark (marksBy Parameter false) m nm ≡ false → x ≡ isMark (marksBy Parameter l) m nm
+    placed p q = rw (← e) (go x)
+      where
+        go : (x : Bool) → x ≡ isMark (marksBy Parameter x) m nm
+        go true = sym p
+        go false = sym q
 
-pub ruleset naming = (word-empty, word-whole, word-lettered, field-name-empty, field-name-word, mark-plain, mark-parameter, mark-taken, mark-free, mark-not-plain, mark-not-parameter, mark-indexed)
+    pub parameter-calldata : m ≡ inCalldata → x ≡ isMark (marksBy Parameter l) m nm
+    unfolding isMark
+    parameter-calldata z = placed (rw z) (rw z)
+
+    pub parameter-memory : m ≡ inMemory → x ≡ isMark (marksBy Parameter l) m nm
+    unfolding isMark
+    parameter-memory z = placed (rw z) (rw z)
+
+  pub parameter-other : (m ≡ 0 → ⊥) → (m ≡ inCalldata → ⊥) → (m ≡ inMemory → ⊥) → false ≡ isMark (marksBy Parameter l) m nm
+  unfolding isMark
+  parameter-other z c d = go l
+    where
+      go : (l : Bool) → false ≡ isMark (marksBy Parameter l) m nm
+      go true = rw (ne-eqb m 0 z, ne-eqb m inCalldata c, ne-eqb m inMemory d)
+      go false = rw (ne-eqb m 0 z)
+
+-- a mark of an event's own list
+module _ (m : ℕ) (nm : List ℕ) where
+  pub event-taken : (r : Bool) → m ≡ 0 → r ≡ same (ascii "indexed") nm → r ≡ true → false ≡ isMark attributes m nm
+  unfolding isMark
+  event-taken r e f g = rw (e, ← f, g)
+
+  pub event-free : (r : Bool) → m ≡ 0 → r ≡ same (ascii "indexed") nm → r ≡ false → true ≡ isMark attributes m nm
+  unfolding isMark
+  event-free r e f g = rw (e, ← f, g)
+
+  pub event-indexed : (m ≡ 0 → ⊥) → eqb m 1 ≡ isMark attributes m nm
+  unfolding isMark
+  event-indexed z = rw (ne-eqb m 0 z) (sym (or-false (eqb m 1 || false) ∙ or-false (eqb m 1)))
+
+-- a mark, by the sort of the list
+module _ (sort : Sort) (l : Bool) (m : ℕ) (nm : List ℕ) where
+  pub mark-plain : sort ≡ Plain → eqb m 0 ≡ isMark (marksBy sort l) m nm
+  unfolding isMark
+  mark-plain e = rw e (sym (and-true (eqb m 0)))
+
+  pub mark-parameter : (r : Bool) → sort ≡ Parameter → r ≡ isMark (marksBy Parameter l) m nm → r ≡ isMark (marksBy sort l) m nm
+  mark-parameter r e f = rw e f
+
+  pub mark-event : (r : Bool) → sort ≡ Event → r ≡ isMark attributes m nm → r ≡ isMark (marksBy sort l) m nm
+  mark-event r e f = rw e f
+
+pub ruleset naming = (word-empty, word-whole, word-lettered, field-name-empty, field-name-word, taken-calldata, taken-memory, free-name, parameter-free, parameter-taken, parameter-unlocated, parameter-calldata, parameter-memory, parameter-other, event-taken, event-free, event-indexed, mark-plain, mark-parameter, mark-event)

@@ -16,7 +16,9 @@ use Rattle.model.specs.Layout.{leValue, pieceOf}
 use Rattle.model.specs.Record.{isFieldName, isMark, given, onOption, when, onPiece, baseFrom, decodeSuffixes, fieldFrom, tupleFrom}
 use Rattle.model.specs.Line.{fieldText, fieldName}
 use Rattle.model.proofs.Decoding.{when-some, given-some}
-use Rattle.record.specs.Texts.{kindFrom}
+use Rattle.model.specs.Reading.{marksBy, marks}
+use Rattle.record.specs.Texts.{locatedFrom, isMarkAt, kindFrom}
+use Rattle.record.proofs.Located.{located-same}
 use Rattle.record.proofs.Equations.{kinded}
 
 -- a record that bytes begin with, where something was read of it
@@ -59,7 +61,7 @@ module _ (sort : Sort) (d : ℕ) where
       (omega arith, ap fieldName (Option·some-injective _ _ e₄), sym (rw g at text))))))
 
   pub field-there : (k : ℕ) (body : List ℕ) (f : Field) → fieldFrom 4 sort (baseFrom (tupleFrom 4 d)) k body ≡ some f → (k ≡ 0x10) × FieldThere d body f
-  unfolding fieldFrom
+  unfolding fieldFrom locatedFrom marks
   field-there k body f e =
       when-some (eqb k 0x10) _ e (λ p e₁.
       test-there (leb 2 (length body)) _ e₁ (λ q e₂.
@@ -67,7 +69,8 @@ module _ (sort : Sort) (d : ℕ) where
       test-there (eqb (leValue (take 2 (drop 4 (drop 2 body)))) 0x11) _ e₃ (λ c e₄.
       let m : ℕ = leValue (take 4 (drop 2 body)) in
       let name : List ℕ = take (m - 6) (drop 6 (drop 2 body)) in
-      let (more, nm, kind) = kind-there (leValue (take 2 body)) name (isMark sort (leValue (take 2 body)) name && isFieldName name) (drop m (drop 2 body)) f e₄ in
+      let (more, nm, kind) = kind-there (leValue (take 2 body)) name (isMarkAt sort (drop m (drop 2 body)) (leValue (take 2 body)) name && isFieldName name) (drop m (drop 2 body)) f
+      (sym (located-same (tupleFrom 4 d) (λ l. isMark (marksBy sort l) (leValue (take 2 body)) name && isFieldName name) (leValue (take 2 body)) name (pieceOf 4 (drop m (drop 2 body)))) ∙ e₄) in
       let less : 2 + m - 8 ≡ m - 6 = omega arith in (
         eqb-true k 0x10 p,
         record {

@@ -14,9 +14,9 @@ use Rattle.kinds.specs.Bytes.{rparen}
 use Rattle.model.specs.declared.Sort.{Sort}
 use Rattle.model.specs.declared.Sort.the-variants.{Plain}
 use Rattle.model.specs.Layout.{leValue, piece}
-use Rattle.model.specs.Record.{isFieldName, isMark, given, onOption, when, onPiece, ofKind}
+use Rattle.model.specs.Record.{isFieldName, given, onOption, when, onPiece, ofKind}
 use Rattle.model.proofs.Scans.{part-rest}
-use Rattle.record.specs.Texts.{measured, behind, elementaryFrom, suffixFrom, suffixesFrom, baseTextFrom, kindFrom, fieldTextFrom, tupleTextFrom}
+use Rattle.record.specs.Texts.{isMarkAt, measured, behind, elementaryFrom, suffixFrom, suffixesFrom, baseTextFrom, kindFrom, fieldTextFrom, tupleTextFrom}
 use Rattle.record.specs.Parts.{Head, Front}
 use Rattle.record.proofs.Lengths.{elementary-other}
 use Rattle.record.proofs.Loops.{Left, measured-none, left-end, left-none, left-bad, left-next}
@@ -73,15 +73,15 @@ module _ (sort : Sort) (body : List ℕ) (m : ℕ) (h : 2 ≤ length body) (p : 
     name-kind = rw part-rest at e
 
     headed : (d : ℕ) → fieldTextFrom sort d 0x10 body
-        ≡ ofKind 0x11 (piece k (take (m - 6) (drop 6 (drop 2 body))) (drop m (drop 2 body))) (λ nm r₁. when (isMark sort (leValue (take 2 body)) nm && isFieldName nm) (kindFrom d r₁))
+        ≡ ofKind 0x11 (piece k (take (m - 6) (drop 6 (drop 2 body))) (drop m (drop 2 body))) (λ nm r₁. when (isMarkAt sort r₁ (leValue (take 2 body)) nm && isFieldName nm) (kindFrom d r₁))
     headed d = field-named sort d body h ∙ rw (name-head .some z, ← name-kind)
 
     pub front-other : (k ≡ 0x11 → ⊥) → Front sort body 0
     front-other y = no-front sort body (λ d. headed d ∙ rw (onPiece, ne-eqb k 0x11 y))
 
-    module _ (x : ℕ) (r : Bool) (y : k ≡ 0x11) (f : x ≡ leValue (take 2 (drop 0 body))) (g : r ≡ isMark sort x (take (m - 6) (drop 6 (take (length body - 2) (drop 2 body))))) where
-      mark-here : isMark sort (leValue (take 2 body)) (take (m - 6) (drop 6 (drop 2 body))) ≡ r
-      mark-here = sym (rw (f, part-rest) at g)
+    module _ (x : ℕ) (r : Bool) (y : k ≡ 0x11) (f : x ≡ leValue (take 2 (drop 0 body))) (g : r ≡ isMarkAt sort (take (length (take (length body - 2) (drop 2 body)) - m) (drop m (take (length body - 2) (drop 2 body)))) x (take (m - 6) (drop 6 (take (length body - 2) (drop 2 body))))) where
+      mark-here : isMarkAt sort (drop m (drop 2 body)) (leValue (take 2 body)) (take (m - 6) (drop 6 (drop 2 body))) ≡ r
+      mark-here = sym (rw (f, part-rest, part-rest) at g)
 
       pub front-unmarked : r ≡ false → Front sort body 0
       front-unmarked o = no-front sort body (λ d. headed d ∙ rw (y, mark-here, o))

@@ -1,17 +1,20 @@
 -- The texts that parts of a record stand for, where those parts are well formed, and how long they are.
 -- Assumes nothing.
-use mathlib.Core.Bool.{Bool, true, false}
-use mathlib.Core.List.{List, _++_}
+use mathlib.Core.Bool.{Bool, true, false, _||_}
+use mathlib.Core.List.{List, [], _∷_, _++_}
 use mathlib.Core.Option.{Option, none, some}
 use Prim.Native.Nat.{ℕ, _+_}
 use lib.Dec.{eqb}
 use lib.ListN.{length}
+use Rattle.kinds.specs.Bytes.{between}
 use Rattle.kinds.specs.Decimal.{decimal}
 use Rattle.kinds.specs.Kind.{Kind, elementaryText, suffixText, kindText}
 use Rattle.model.specs.declared.Sort.{Sort}
 use Rattle.model.specs.Tree.{Fields, noField, moreFields, baseKind, kindsOf}
-use Rattle.model.specs.Layout.{leValue, pieceOf}
-use Rattle.model.specs.Record.{given, onOption, onPiece, each, decodeElementary, decodeSuffix, decodeSuffixes, baseFrom, fieldFrom, tupleFrom}
+use Rattle.model.specs.KindText.{lookup}
+use Rattle.model.specs.Reading.{locations, marksBy}
+use Rattle.model.specs.Layout.{leValue, Piece, piece, noPiece, pieceOf}
+use Rattle.model.specs.Record.{isAbsent, isMark, given, onOption, onPiece, each, decodeElementary, decodeSuffix, decodeSuffixes, baseFrom, fieldFrom, tupleFrom}
 use Rattle.model.specs.Line.{fieldText}
 use Rattle.model.specs.Written.{suffixesText}
 
@@ -47,6 +50,26 @@ suffixFrom k body = onOption suffixText (decodeSuffix k body)
 -- suffixes up to the end
 unfoldable pub suffixesFrom : List ℕ → Option (List ℕ)
 suffixesFrom b = onOption suffixesText (decodeSuffixes 4 b)
+
+-- whether the kind whose base and suffixes stand there, if they are one, admits data locations: `bytes`, `string`, a tuple, or any with a suffix
+abbrev pub isMore : List ℕ → Bool
+isMore [] = false
+isMore (c ∷ t) = true
+
+abbrev pub locatedAt : Piece → Bool
+locatedAt noPiece = false
+locatedAt (piece k body r) = isMore r || between 0x7 0x9 k
+
+unfoldable pub locatedFrom : List ℕ → Bool
+locatedFrom t = locatedAt (pieceOf 4 t)
+
+-- whether a name is no data location
+unfoldable pub isFree : List ℕ → Bool
+isFree nm = isAbsent (lookup locations nm)
+
+-- whether a mark suits a name in a list of a sort, at the kind whose base and suffixes stand there
+abbrev pub isMarkAt : Sort → List ℕ → ℕ → List ℕ → Bool
+isMarkAt sort t m nm = isMark (marksBy sort (locatedFrom t)) m nm
 
 -- by a record's kind and body: a base in which d tuples may nest
 unfoldable pub baseTextFrom : ℕ → ℕ → List ℕ → Option (List ℕ)

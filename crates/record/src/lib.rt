@@ -1,7 +1,11 @@
 // Whether bytes that anyone may hand in are a record, and how long the texts are of what they say.
 // Lengths of texts are 0 where there is none: no kind has an empty text.
+use model::CALLDATA;
+use model::INDEXED;
 use model::Keyword;
+use model::MEMORY;
 use model::Sort;
+use model::UNMARKED;
 ghost use mathlib.Core.Path.{_≡_};
 ghost use Prim.Native.Nat.{_+_, _*_, _-_, _≤_, _<_};
 ghost use lib.ListN.{length, take, drop};
@@ -11,10 +15,11 @@ ghost use Rattle.kinds.specs.Kind.{isBitWidth, isByteLength};
 ghost use mathlib.Core.Bool.{true};
 ghost use mathlib.Core.List.{[]};
 ghost use mathlib.Core.Option.{none};
-ghost use Rattle.model.specs.declared.Sort.the-variants.{Plain};
+ghost use Rattle.model.specs.declared.Sort.the-variants.{Plain, Parameter};
+ghost use Rattle.model.specs.Reading.{attributes};
 ghost use Rattle.model.specs.Record.{isFieldName, isMark, decodeField, functionFrom, constructorFrom, eventFrom, errorFrom, decode, decodeLone};
 ghost use Rattle.record.specs.Says.{Says, NoList, NameEnds, ListIs};
-ghost use Rattle.record.specs.Texts.{measured, behind, numbered, bare, elementaryFrom, suffixFrom, suffixesFrom, kindFrom, fieldTextFrom, tupleTextFrom};
+ghost use Rattle.record.specs.Texts.{locatedFrom, isFree, isMarkAt, measured, behind, numbered, bare, elementaryFrom, suffixFrom, suffixesFrom, kindFrom, fieldTextFrom, tupleTextFrom};
 ghost use Rattle.record.specs.Parts.{Head, Front, Alone};
 
 // The length of the record that a part begins with; below 6 where there is none.
@@ -218,27 +223,89 @@ fn is_field_name(t: &[u8], from: usize, to: usize) -> bool
     is_word(t, from, to)
 }
 
-// "mark 1 only in an event's own list, and there no mark 0 with the name `indexed`"
-fn is_mark(sort: Sort, mark: usize, name: &[u8]) -> bool
-    ensures { λ r. ⌜ r ≡ isMark sort mark (now (name .entry)) ⌝ }
+// The kinds of record that are a base at which a data location may stand.
+const BYTES: usize = 0x7;
+
+const STRING: usize = 0x8;
+
+const TUPLE: usize = 0x9;
+
+// Whether a data location may stand at a kind, by the records of its base and its suffixes: "only at arrays, tuples, `bytes` and `string`".
+fn is_located(t: &[u8]) -> bool
+    ensures { λ r. ⌜ r ≡ locatedFrom (now (t .entry)) ⌝ }
 {
-    if mark == 0 {
-        match sort {
-            Sort::Plain => true,
-            Sort::Parameter => true,
-            Sort::Event => {
-                if text::equal(b"indexed", name) {
-                    return false;
-                }
-                true
-            }
+    let n = record_length(t);
+    if n < 6 {
+        return false;
+    }
+    if n < t.len() {
+        return true;
+    }
+    match layout::get2(t, 4) {
+        BYTES => true,
+        STRING => true,
+        TUPLE => true,
+        _ => false,
+    }
+}
+
+// Whether a name is no data location.
+fn is_free(name: &[u8]) -> bool
+    ensures { λ r. ⌜ r ≡ isFree (now (name .entry)) ⌝ }
+{
+    if text::equal(b"calldata", name) {
+        return false;
+    }
+    if text::equal(b"memory", name) {
+        return false;
+    }
+    true
+}
+
+// Marks 2 and 3 "stand only in a function's or constructor's own lists, not inside tuples, at kinds that admit them. Such a field with mark 0 and
+// the name `calldata` or `memory` is no longer well formed." The kind is looked at only where it decides.
+fn is_parameter_mark(mark: usize, name: &[u8], kind: &[u8]) -> bool
+    ensures { λ r. ⌜ r ≡ isMarkAt Parameter (now (kind .entry)) mark (now (name .entry)) ⌝ }
+{
+    if mark == UNMARKED {
+        if is_free(name) {
+            return true;
         }
-    } else {
-        match sort {
-            Sort::Plain => false,
-            Sort::Parameter => false,
-            Sort::Event => mark == 1,
+        if is_located(kind) {
+            return false;
         }
+        return true;
+    }
+    if mark == CALLDATA {
+        return is_located(kind);
+    }
+    if mark == MEMORY {
+        return is_located(kind);
+    }
+    false
+}
+
+// "mark 1 only in an event's own list, and there no mark 0 with the name `indexed`"
+fn is_event_mark(mark: usize, name: &[u8]) -> bool
+    ensures { λ r. ⌜ r ≡ isMark attributes mark (now (name .entry)) ⌝ }
+{
+    if mark == UNMARKED {
+        if text::equal(b"indexed", name) {
+            return false;
+        }
+        return true;
+    }
+    mark == INDEXED
+}
+
+// Whether a field's mark suits its name and its kind, whose records stand in `kind`.
+fn is_mark(sort: Sort, mark: usize, name: &[u8], kind: &[u8]) -> bool
+    ensures { λ r. ⌜ r ≡ isMarkAt sort (now (kind .entry)) mark (now (name .entry)) ⌝ }
+{
+    match sort {
+        Sort::Plain => mark == UNMARKED,
+        Sort::Parameter => is_parameter_mark(mark, name, kind),
+        Sort::Event => is_event_mark(mark, name),
     }
 }
 
@@ -256,7 +323,7 @@ fn front(body: &[u8], sort: Sort) -> usize
     }
     if layout::get2(t, 4) == 0x11 {
         let name = &t[6..m];
-        if is_mark(sort, layout::get2(body, 0), name) {
+        if is_mark(sort, layout::get2(body, 0), name, &t[m..]) {
             if is_field_name(t, 6, m) {
                 return 2 + m;
             }

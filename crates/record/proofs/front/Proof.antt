@@ -33,6 +33,15 @@ part-name-end c = search needs
 get2-requires-2 : tie.Need-get2-requires-2
 get2-requires-2 c κs = search needs
 
+sub-is-mark : tie.Need-sub-is-mark
+sub-is-mark c = search needs
+
+part-is-mark-start : tie.Need-part-is-mark-start
+part-is-mark-start c = search needs
+
+part-is-mark-end : tie.Need-part-is-mark-end
+part-is-mark-end c = search needs
+
 is-mark-requires : tie.Need-is-mark-requires
 is-mark-requires c κs = search needs
 
@@ -68,6 +77,9 @@ front-spec =
     part-name-start
     part-name-end
     get2-requires-2
+    sub-is-mark
+    part-is-mark-start
+    part-is-mark-end
     is-mark-requires
     is-field-name-requires
     add-result

@@ -1,0 +1,37 @@
+use Rattle.record.proofs.Names.{naming}
+use borrow.Author.Needs.{needs}
+use Rattle.record.proofs.is_free.Statement.{statement}
+use Rattle.record.proofs.is_free.Tie as tie
+
+slice-aggregate-equal : tie.Need-slice-aggregate-equal
+slice-aggregate-equal c = search needs
+
+equal-requires : tie.Need-equal-requires
+equal-requires c κs = search needs
+
+returns : tie.Need-returns
+returns c = search (needs, naming)
+
+slice-aggregate-equal-2 : tie.Need-slice-aggregate-equal-2
+slice-aggregate-equal-2 c = search needs
+
+equal-requires-2 : tie.Need-equal-requires-2
+equal-requires-2 c κs = search needs
+
+returns-2 : tie.Need-returns-2
+returns-2 c = search (needs, naming)
+
+returns-3 : tie.Need-returns-3
+returns-3 c = search (needs, naming)
+
+pub is-free-spec : {M : Type 1} → statement M
+is-free-spec =
+    tie.close
+    (tie.spec
+    slice-aggregate-equal
+    equal-requires
+    returns
+    slice-aggregate-equal-2
+    equal-requires-2
+    returns-2
+    returns-3)
