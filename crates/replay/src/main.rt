@@ -1,10 +1,14 @@
 // Replays the Rust original's answers through the calls. Standard input is the fixed list that tests/oracle/README.md describes. Prints the first
-// rows that differ, and then how many rows of each call agree and how many differ.
+// rows that differ, and then how many rows of each call agree and how many differ. "The Rust forgets the word, so records are compared with marks
+// 2 and 3 set to 0."
 use libc::STDIN_FILENO;
 use libc::STDOUT_FILENO;
 use model::Answer;
+use model::CALLDATA;
 use model::Call;
+use model::MEMORY;
 use model::Refusal;
+use model::UNMARKED;
 use text::Maybe;
 ghost use Prim.Native.Nat.{_+_, _≤_, _<_};
 ghost use lib.ListN.{length};
@@ -243,6 +247,117 @@ fn is_number(field: &[u8], n: u64) -> bool {
     }
 }
 
+// Place words.
+
+// The longest record.
+const RECORD: usize = 40960;
+
+// How many bytes a record's length and kind take, and those of a declaration with the number behind them.
+const HEAD: usize = 6;
+
+const FRONT: usize = 8;
+
+const FUNCTION_RECORD: usize = 0x20;
+
+const CONSTRUCTOR_RECORD: usize = 0x21;
+
+// The place behind the record at a place, or the end.
+fn behind(b: &[u8], at: usize) -> usize
+    requires { ⌜ at < length (now b) ⌝ }
+    ensures { λ r. ⌜ (at < r) × (r ≤ length (now (b .entry))) ⌝ }
+{
+    if b.len() - at < HEAD {
+        return b.len();
+    }
+    let n = layout::get4(b, at);
+    if n < HEAD {
+        return b.len();
+    }
+    if b.len() - at < n {
+        return b.len();
+    }
+    at + n
+}
+
+// Sets a field's mark to 0 if it is 2 or 3.
+fn forget_mark(b: &mut [u8], at: usize)
+    requires { ⌜ at < length (now b) ⌝ }
+{
+    if b.len() - at < FRONT {
+        return;
+    }
+    let mark = layout::get2(b, at + HEAD);
+    if mark == CALLDATA || mark == MEMORY {
+        layout::put2(b, at + HEAD, UNMARKED);
+    }
+}
+
+// The same for the fields from a place up to an end.
+fn forget_marks(b: &mut [u8], from: usize, end: usize)
+    requires { ⌜ end ≤ length (now b) ⌝ }
+{
+    let mut at = from;
+    while at < end {
+        forget_mark(b, at);
+        at = behind(b, at);
+    }
+}
+
+// The same for a list; answers the place behind it.
+fn forget_list(b: &mut [u8], at: usize) -> usize
+    requires { ⌜ at < length (now b) ⌝ }
+    ensures { λ r. ⌜ r ≤ length (now (b .exit)) ⌝ }
+{
+    let end = behind(b, at);
+    forget_marks(b, at + HEAD, end);
+    end
+}
+
+// The same for the list at a place, if there is one.
+fn forget_there(b: &mut [u8], at: usize) {
+    if at < b.len() {
+        forget_list(b, at);
+    }
+}
+
+// The same for a function's inputs and outputs, which stand behind its name.
+fn forget_both(b: &mut [u8])
+    requires { ⌜ 8 < length (now b) ⌝ }
+{
+    let inputs = behind(b, FRONT);
+    if inputs < b.len() {
+        let outputs = forget_list(b, inputs);
+        forget_there(b, outputs);
+    }
+}
+
+// The same for a declaration's own lists, of which only a function's and a constructor's have such marks.
+fn forget(b: &mut [u8]) {
+    if FRONT < b.len() {
+        match layout::get2(b, 4) {
+            FUNCTION_RECORD => forget_both(b),
+            CONSTRUCTOR_RECORD => forget_there(b, FRONT),
+            _ => (),
+        }
+    }
+}
+
+// Whether a field says a record without its place words, which are forgotten in a copy of it.
+fn is_record(hex: &[u8], record: &[u8]) -> bool {
+    let mut copy = [0; RECORD];
+    is_forgotten(hex, record, &mut copy)
+}
+
+fn is_forgotten(hex: &[u8], record: &[u8], copy: &mut [u8]) -> bool {
+    let n = record.len();
+    if copy.len() < n {
+        return false;
+    }
+    layout::copy(copy, 0, record);
+    forget(&mut copy[..n]);
+    is_hex(hex, &copy[..n])
+}
+
 // Rows.
 
 fn call_of(name: &[u8]) -> usize
@@ -314,13 +429,13 @@ fn says_lines(row: &[u8], call: usize, record: &[u8]) -> bool {
     says_canonical(row, record) && says_signature(row, record)
 }
 
-// Whether the row has this record, and its lines.
+// Whether the row has this record, and its lines, which are asked of the record as it was written.
 fn says_record(row: &[u8], call: usize, length: usize, out: &[u8]) -> bool {
     if out.len() < length {
         return false;
     }
     text::equal(field(row, 2), b"ok")
-        && is_hex(field(row, 3), &out[..length])
+        && is_record(field(row, 3), &out[..length])
         && says_lines(row, call, &out[..length])
 }
 
@@ -494,7 +609,7 @@ fn replay_list(window: &mut [u8], text: &mut [u8], out: &mut [u8], counts: &mut 
 fn main() {
     let mut window = [0; 131072];
     let mut text = [0; 4096];
-    let mut out = [0; 40960];
+    let mut out = [0; RECORD];
     let mut counts = [0; 16];
     replay_list(&mut window, &mut text, &mut out, &mut counts);
     print_summary(&counts);

@@ -19,11 +19,11 @@ equal-requires c κs = search needs
 field-requires-2 : tie.Need-field-requires-2
 field-requires-2 c κs = search needs
 
-slice-aggregate-is-hex : tie.Need-slice-aggregate-is-hex
-slice-aggregate-is-hex c = sym (length-take-le _ _ (search needs))
+slice-aggregate-is-record : tie.Need-slice-aggregate-is-record
+slice-aggregate-is-record c = sym (length-take-le _ _ (search needs))
 
-is-hex-requires : tie.Need-is-hex-requires
-is-hex-requires c κs = search needs
+is-record-requires : tie.Need-is-record-requires
+is-record-requires c κs = search needs
 
 slice-aggregate-says-lines : tie.Need-slice-aggregate-says-lines
 slice-aggregate-says-lines c = sym (length-take-le _ _ (search needs))
@@ -46,8 +46,8 @@ says-record-spec =
     slice-aggregate-equal
     equal-requires
     field-requires-2
-    slice-aggregate-is-hex
-    is-hex-requires
+    slice-aggregate-is-record
+    is-record-requires
     slice-aggregate-says-lines
     says-lines-requires
     returns-2
