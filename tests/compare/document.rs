@@ -1,5 +1,6 @@
-//! What document 01 says, where the Rust original has no say: messages whose context cuts a
-//! character, and which records are well formed.
+//! What document 01 and the orders say, where the Rust original has no say: messages whose context
+//! cuts a character, and which records are well formed.
+use crate::marks::{INDEXED, LOCATIONS, UNMARKED};
 
 // --- messages -------------------------------------------------------------------------
 
@@ -81,11 +82,38 @@ pub struct Formed<'a> {
     pub outputs: Vec<u8>,
 }
 
+/// Bytes of a record's length, and of all that stands before its body.
+pub const LENGTH: usize = 4;
+pub const HEAD: usize = 6;
+
 pub const FUNCTION: u16 = 0x20;
 pub const CONSTRUCTOR: u16 = 0x21;
 pub const EVENT: u16 = 0x22;
 pub const ERROR: u16 = 0x23;
 pub const FIELD: u16 = 0x10;
+pub const NAME: u16 = 0x11;
+pub const LIST: u16 = 0x12;
+pub const INT: u16 = 1;
+pub const UINT: u16 = 2;
+pub const ADDRESS: u16 = 3;
+pub const BOOL: u16 = 4;
+pub const BYTES_N: u16 = 5;
+pub const FUNCTION_KIND: u16 = 6;
+pub const BYTES: u16 = 7;
+pub const STRING: u16 = 8;
+pub const TUPLE: u16 = 9;
+pub const FIXED: u16 = 0xA;
+pub const OPEN: u16 = 0xB;
+
+/// Lists by the marks that their fields may have.
+#[derive(Clone, Copy)]
+pub enum Sort {
+    /// Of an error or a tuple; a field by itself too.
+    Plain,
+    /// Of a function or a constructor.
+    Parameter,
+    Event,
+}
 
 /// None if the record is not well formed.
 pub fn formed(record: &[u8]) -> Option<Formed<'_>> {
@@ -97,7 +125,7 @@ pub fn formed(record: &[u8]) -> Option<Formed<'_>> {
     let body = &mut body;
     let (mut canonical, mut outputs) = (vec![], vec![]);
     if kind == FIELD {
-        let name = field(body, false, 0, &mut canonical)?;
+        let name = field(body, Sort::Plain, 0, &mut canonical)?;
         return Some(Formed { kind, name, canonical, outputs });
     }
     let most = match kind {
@@ -117,11 +145,20 @@ pub fn formed(record: &[u8]) -> Option<Formed<'_>> {
         name = word(body).filter(|name| !name.is_empty())?;
         canonical.extend(name);
     }
-    list(body, kind == EVENT, &mut canonical)?;
+    list(body, sort_of(kind), &mut canonical)?;
     if kind == FUNCTION {
-        list(body, false, &mut outputs)?;
+        list(body, sort_of(kind), &mut outputs)?;
     }
     body.is_empty().then_some(Formed { kind, name, canonical, outputs })
+}
+
+/// The sort of a declaration's own lists.
+pub fn sort_of(declaration: u16) -> Sort {
+    match declaration {
+        FUNCTION | CONSTRUCTOR => Sort::Parameter,
+        EVENT => Sort::Event,
+        _ => Sort::Plain,
+    }
 }
 
 /// Takes a record off: its kind and its body.
@@ -144,19 +181,19 @@ fn word<'a>(rest: &mut &'a [u8]) -> Option<&'a [u8]> {
     let (kind, name) = next(rest)?;
     let lettered = |b: &u8| b.is_ascii_alphanumeric() || matches!(b, b'$' | b'_');
     let digit_first = name.first().is_some_and(u8::is_ascii_digit);
-    (kind == 0x11 && name.iter().all(lettered) && !digit_first).then_some(name)
+    (kind == NAME && name.iter().all(lettered) && !digit_first).then_some(name)
 }
 
-fn list(rest: &mut &[u8], event: bool, out: &mut Vec<u8>) -> Option<()> {
+fn list(rest: &mut &[u8], sort: Sort, out: &mut Vec<u8>) -> Option<()> {
     let (kind, body) = next(rest)?;
-    if kind != 0x12 {
+    if kind != LIST {
         return None;
     }
-    fields(body, event, 0, out)
+    fields(body, sort, 0, out)
 }
 
 /// Fields up to the end of the body, `nested` tuples deep.
-fn fields(mut body: &[u8], event: bool, nested: usize, out: &mut Vec<u8>) -> Option<()> {
+fn fields(mut body: &[u8], sort: Sort, nested: usize, out: &mut Vec<u8>) -> Option<()> {
     out.push(b'(');
     let mut first = true;
     while !body.is_empty() {
@@ -168,44 +205,57 @@ fn fields(mut body: &[u8], event: bool, nested: usize, out: &mut Vec<u8>) -> Opt
         if kind != FIELD {
             return None;
         }
-        field(&mut inside, event, nested, out)?;
+        field(&mut inside, sort, nested, out)?;
     }
     out.push(b')');
     Some(())
 }
 
 /// The body of a field; its kind's text is written and its name handed back.
-fn field<'a>(body: &mut &'a [u8], event: bool, nested: usize, out: &mut Vec<u8>) -> Option<&'a [u8]> {
+fn field<'a>(body: &mut &'a [u8], sort: Sort, nested: usize, out: &mut Vec<u8>) -> Option<&'a [u8]> {
     let mark = number(body)?;
     let name = word(body)?;
-    if mark > event as u16 || event && mark == 0 && name == b"indexed" {
-        return None;
-    }
-    kind(body, nested, out)?;
+    let mut located = kind(body, nested, out)?;
     while !body.is_empty() {
         suffix(body, out)?;
+        located = true;
     }
-    Some(name)
+    is_mark(sort, located, mark, name).then_some(name)
 }
 
-fn kind(rest: &mut &[u8], nested: usize, out: &mut Vec<u8>) -> Option<()> {
+/// A mark that one of the words stands for that may stand there, or none and a name that is no such
+/// word; `located` if the kind admits a data location.
+fn is_mark(sort: Sort, located: bool, mark: u16, name: &[u8]) -> bool {
+    let words = match sort {
+        Sort::Event => &[("indexed", INDEXED)][..],
+        Sort::Parameter if located => &LOCATIONS,
+        _ => &[],
+    };
+    match mark {
+        UNMARKED => words.iter().all(|(word, _)| word.as_bytes() != name),
+        _ => words.iter().any(|(_, stands)| *stands == mark),
+    }
+}
+
+/// A kind without its suffixes; whether it admits a data location.
+fn kind(rest: &mut &[u8], nested: usize, out: &mut Vec<u8>) -> Option<bool> {
     let (kind, mut body) = next(rest)?;
     let word = match kind {
-        1 => "int",
-        2 => "uint",
-        3 => "address",
-        4 => "bool",
-        5 | 7 => "bytes",
-        6 => "function",
-        8 => "string",
-        9 if nested < 32 => return fields(body, false, nested + 1, out),
+        INT => "int",
+        UINT => "uint",
+        ADDRESS => "address",
+        BOOL => "bool",
+        BYTES_N | BYTES => "bytes",
+        FUNCTION_KIND => "function",
+        STRING => "string",
+        TUPLE if nested < 32 => return fields(body, Sort::Plain, nested + 1, out).map(|()| true),
         _ => return None,
     };
     out.extend(word.bytes());
-    if matches!(kind, 1 | 2 | 5) {
+    if matches!(kind, INT | UINT | BYTES_N) {
         let n = number(&mut body)?;
         let good = match kind {
-            5 => (1..=32).contains(&n),
+            BYTES_N => (1..=32).contains(&n),
             _ => n % 8 == 0 && (8..=256).contains(&n),
         };
         if !good {
@@ -213,17 +263,17 @@ fn kind(rest: &mut &[u8], nested: usize, out: &mut Vec<u8>) -> Option<()> {
         }
         out.extend(n.to_string().bytes());
     }
-    body.is_empty().then_some(())
+    body.is_empty().then_some(matches!(kind, BYTES | STRING))
 }
 
 fn suffix(rest: &mut &[u8], out: &mut Vec<u8>) -> Option<()> {
     let (kind, body) = next(rest)?;
     match kind {
-        0xA => {
+        FIXED => {
             let n = u64::from_le_bytes(body.try_into().ok()?);
             out.extend(format!("[{n}]").bytes());
         }
-        0xB if body.is_empty() => out.extend(b"[]"),
+        OPEN if body.is_empty() => out.extend(b"[]"),
         _ => return None,
     }
     Some(())

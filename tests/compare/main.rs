@@ -2,6 +2,7 @@
 //! Usage: compare [COUNT] [SEED]. Exit status 1 if a difference is on no list.
 mod calls;
 mod document;
+mod marks;
 mod original;
 mod random;
 mod records;
@@ -19,6 +20,7 @@ enum Rule {
     NotUtf8,
     TooDeep,
     KindTuple,
+    Place,
     Panic,
     Escape,
 }
@@ -30,6 +32,7 @@ impl Rule {
             Rule::NotUtf8 => "text not UTF-8: 9 where the Rust's caller stops",
             Rule::TooDeep => "33rd open tuple: 10 at its bracket",
             Rule::KindTuple => "kind text starts with a bracket: 14",
+            Rule::Place => "place word: mark 2 or 3, which the Rust forgets",
             Rule::Panic => "context cuts a character, the Rust panics: error as elsewhere",
             Rule::Escape => "message copies what the Rust escapes",
         }
@@ -46,6 +49,9 @@ enum Wanted<'a> {
 const GUARD: usize = 64;
 const FILL: u8 = 0xA5;
 const SHOWN: usize = 10;
+
+/// Room enough for every record.
+const LONGEST: usize = 40_960;
 
 #[derive(Default)]
 struct Compare {
@@ -145,6 +151,7 @@ impl Compare {
             let text = text.unwrap();
             match original::read(place, text) {
                 Said::Read { record: read, texts } => {
+                    let Some(read) = self.kept(call, text, read) else { continue };
                     self.check(call, bytes, &Wanted::Output(&read));
                     self.message(place, bytes, "");
                     self.texts(&read, &texts, place == KIND);
@@ -162,6 +169,46 @@ impl Compare {
                     self.message(place, bytes, &document::message(place, text, number, position));
                 }
             }
+        }
+    }
+
+    /// What a call has to write where the Rust read this record. If the text has place words as marks,
+    /// it is what the call writes, once that is the Rust's record in a copy without them and they are
+    /// those of the text; none if it is not so.
+    fn kept(&mut self, call: &Call, text: &str, read: Vec<u8>) -> Option<Vec<u8>> {
+        let words = marks::of_text(text, &read);
+        if words.iter().all(|mark| *mark == marks::UNMARKED) {
+            return Some(read);
+        }
+        self.listed(Rule::Place);
+        let written = self.written(call, text.as_bytes(), read.len());
+        let fields = marks::of_record(&written).unwrap_or_default();
+        let stand: Vec<u16> = fields.iter().map(|(mark, _)| *mark).collect();
+        if stand == words && marks::forgotten(&written).as_ref() == Some(&read) {
+            return Some(written);
+        }
+        self.differ(call.name, text.as_bytes(), || {
+            format!("marks {stand:?} instead of {words:?}, in {} beside {}", hex(&written), hex(&read))
+        });
+        None
+    }
+
+    /// What a call leaves in a lent buffer of that length.
+    fn written(&mut self, call: &Call, input: &[u8], room: usize) -> Vec<u8> {
+        self.asked += 1;
+        let mut lent = vec![FILL; room];
+        ask(call, input, &mut lent);
+        lent
+    }
+
+    /// A text whose own lists have only fields with this mark and this name.
+    fn located(&mut self, text: &str, mark: u16, name: &str) {
+        let call = &READERS[original::GENERAL];
+        let written = self.written(call, text.as_bytes(), LONGEST);
+        let fields = marks::of_record(&written).unwrap_or_default();
+        if fields.is_empty() || fields.iter().any(|field| *field != (mark, name.as_bytes())) {
+            let what = || format!("marks and names {fields:?} instead of {mark} and {name}");
+            self.differ(call.name, text.as_bytes(), what);
         }
     }
 
@@ -263,6 +310,8 @@ fn run(count: usize, seed: u64) -> bool {
     for size in [40_959, 40_960, 40_961, 50_000] {
         compare.record(&records::of_size(size));
     }
+    records::marked(|record| compare.record(record));
+    texts::located(&mut |text, mark, name| compare.located(text, mark, name));
     texts::each(count, seed, |text| {
         texts += 1;
         compare.text(text, &mut read);

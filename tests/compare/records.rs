@@ -1,6 +1,13 @@
 //! Made-up records: most well formed, the others next to it.
-use crate::document::{CONSTRUCTOR, ERROR, EVENT, FIELD, FUNCTION};
+use crate::document::{
+    sort_of, Sort, BOOL, BYTES, BYTES_N, CONSTRUCTOR, ERROR, EVENT, FIELD, FIXED, FUNCTION, FUNCTION_KIND,
+    HEAD, INT, LIST, NAME, OPEN, STRING, TUPLE, UINT,
+};
+use crate::marks::{CALLDATA, INDEXED, MEMORY, UNMARKED};
 use crate::random::Random;
+
+/// Room for a number that is put in later.
+const UNKNOWN: [u8; 2] = [0; 2];
 
 pub struct Maker<'a> {
     pub random: &'a mut Random,
@@ -15,7 +22,7 @@ impl Maker<'_> {
     pub fn record(&mut self) {
         let kind = *self.random.of(&[&FUNCTION, &FUNCTION, &CONSTRUCTOR, &EVENT, &ERROR, &FIELD]);
         if kind == FIELD {
-            return self.field(false);
+            return self.field(Sort::Plain);
         }
         let start = self.open(kind);
         let numbers = match kind {
@@ -33,9 +40,9 @@ impl Maker<'_> {
         if kind != CONSTRUCTOR {
             self.name(false);
         }
-        self.list(kind == EVENT);
+        self.list(sort_of(kind));
         if kind == FUNCTION {
-            self.list(false);
+            self.list(sort_of(kind));
         }
         self.close(start);
     }
@@ -66,14 +73,21 @@ impl Maker<'_> {
     }
 
     fn number(&mut self, n: u16) {
+        let at = self.out.len();
+        self.out.extend(UNKNOWN);
+        self.number_at(at, n);
+    }
+
+    /// Puts a number where room was left for it.
+    fn number_at(&mut self, at: usize, n: u16) {
         let other = *self.random.of(&[&0, &1, &2, &3, &4, &7, &12, &33, &256, &264, &0x108, &0x8001]);
         let n = if self.fault() { other } else { n };
-        self.out.extend(n.to_le_bytes());
+        self.out[at..at + UNKNOWN.len()].copy_from_slice(&n.to_le_bytes());
     }
 
     fn name(&mut self, may_be_empty: bool) {
-        let start = self.open(0x11);
-        let good = self.random.of(&["a", "$", "_9", "amount", "Zz09", "indexed", "memory"]);
+        let start = self.open(NAME);
+        let good = self.random.of(&["a", "$", "_9", "amount", "Zz09", "indexed", "memory", "calldata"]);
         let bad = self.random.of(&["", "9", "a b", "é", "a.", "a\0", "@", "[", "`", "{", "/", ":"]);
         let none = may_be_empty && self.random.once_in(3);
         let name = if none { "" } else if self.fault() { bad } else { good };
@@ -81,68 +95,87 @@ impl Maker<'_> {
         self.close(start);
     }
 
-    fn list(&mut self, event: bool) {
-        let start = self.open(0x12);
-        self.fields(event);
+    fn list(&mut self, sort: Sort) {
+        let start = self.open(LIST);
+        self.fields(sort);
         self.close(start);
     }
 
-    fn fields(&mut self, event: bool) {
+    fn fields(&mut self, sort: Sort) {
         let fields = self.random.of(&[&0, &1, &1, &2, &3]);
         for _ in 0..*fields {
-            self.field(event);
+            self.field(sort);
         }
     }
 
-    fn field(&mut self, event: bool) {
+    fn field(&mut self, sort: Sort) {
         let start = self.open(FIELD);
-        let indexed = event && self.random.once_in(2);
-        self.number(indexed as u16);
+        let mark = self.out.len();
+        // Which marks may stand here is known behind the kind.
+        self.out.extend(UNKNOWN);
         self.name(true);
-        if self.deep > 0 && self.random.once_in(if self.deep > 4 { 1 } else { 4 }) {
-            self.deep -= 1;
-            let tuple = self.open(9);
-            // Deep down one field is enough.
-            if self.deep > 4 {
-                self.field(false);
-            } else {
-                self.fields(false);
-            }
-            self.close(tuple);
-            self.deep += 1;
-        } else {
-            self.elementary();
-        }
+        let mut located = self.kind();
         while self.random.once_in(3) {
             self.suffix();
+            located = true;
         }
+        let stands = self.mark(sort, located);
+        self.number_at(mark, stands);
         self.close(start);
     }
 
-    fn elementary(&mut self) {
-        let kind = 1 + self.random.below(8) as u16;
+    /// A mark that may stand in a list of this sort, at a kind that admits a data location or not.
+    fn mark(&mut self, sort: Sort, located: bool) -> u16 {
+        match sort {
+            Sort::Event => *self.random.of(&[&UNMARKED, &INDEXED]),
+            Sort::Parameter if located => *self.random.of(&[&UNMARKED, &CALLDATA, &MEMORY]),
+            _ => UNMARKED,
+        }
+    }
+
+    /// A kind without its suffixes; whether it admits a data location.
+    fn kind(&mut self) -> bool {
+        if self.deep == 0 || !self.random.once_in(if self.deep > 4 { 1 } else { 4 }) {
+            return self.elementary();
+        }
+        self.deep -= 1;
+        let tuple = self.open(TUPLE);
+        // Deep down one field is enough.
+        if self.deep > 4 {
+            self.field(Sort::Plain);
+        } else {
+            self.fields(Sort::Plain);
+        }
+        self.close(tuple);
+        self.deep += 1;
+        true
+    }
+
+    fn elementary(&mut self) -> bool {
+        let kind = INT + self.random.below(STRING as usize) as u16;
         let start = self.open(kind);
         match kind {
-            1 | 2 => {
+            INT | UINT => {
                 let width = 8 * (1 + self.random.below(32));
                 self.number(width as u16);
             }
-            5 => {
+            BYTES_N => {
                 let length = 1 + self.random.below(32);
                 self.number(length as u16);
             }
             _ => (),
         }
         self.close(start);
+        matches!(kind, BYTES | STRING)
     }
 
     fn suffix(&mut self) {
         if self.random.once_in(2) {
-            let start = self.open(0xB);
+            let start = self.open(OPEN);
             self.close(start);
             return;
         }
-        let start = self.open(0xA);
+        let start = self.open(FIXED);
         let length = match self.random.below(4) {
             0 => self.random.next(),
             1 => u64::MAX,
@@ -154,23 +187,68 @@ impl Maker<'_> {
     }
 }
 
+// --- fixed records ----------------------------------------------------------------------
+
+/// The number of a function or a constructor that states `payable`, and of an event that is not
+/// anonymous.
+const PAYABLE: [u8; 2] = [3, 0];
+const NOT_ANONYMOUS: [u8; 2] = [0, 0];
+
+/// A record around what stands in it.
+fn wrapped(kind: u16, body: &[&[u8]]) -> Vec<u8> {
+    let body = body.concat();
+    let length = (HEAD + body.len()) as u32;
+    [&length.to_le_bytes()[..], &kind.to_le_bytes(), &body].concat()
+}
+
 /// An event's record of `size` bytes: many fields, and a name that fills what they leave.
 pub fn of_size(size: usize) -> Vec<u8> {
     let field: &[u8] = b"\x16\0\0\0\x10\0\0\0\x06\0\0\0\x11\0\x08\0\0\0\x02\0\x40\0";
     let front = 8 + 6 + 1 + 6;
     let fields = (size - front) / field.len();
-    let name = 1 + (size - front) % field.len();
-    let list = 6 + fields * field.len();
-    let mut out = vec![];
-    let head = |out: &mut Vec<u8>, length: usize, kind: u16| {
-        out.extend((length as u32).to_le_bytes());
-        out.extend(kind.to_le_bytes());
-    };
-    head(&mut out, size, EVENT);
-    out.extend([0; 2]);
-    head(&mut out, 6 + name, 0x11);
-    out.extend(vec![b'n'; name]);
-    head(&mut out, list, 0x12);
-    out.extend(field.repeat(fields));
-    out
+    let name = vec![b'n'; 1 + (size - front) % field.len()];
+    let list = wrapped(LIST, &[&field.repeat(fields)]);
+    wrapped(EVENT, &[&NOT_ANONYMOUS, &wrapped(NAME, &[&name]), &list])
+}
+
+/// Hands each mark with each of several names and kinds to `take`: by itself, in a tuple and in each
+/// list.
+pub fn marked(mut take: impl FnMut(&[u8])) {
+    let bool = wrapped(BOOL, &[]);
+    let kinds = [
+        bool.clone(),
+        wrapped(BYTES_N, &[&32_u16.to_le_bytes()]),
+        wrapped(FUNCTION_KIND, &[]),
+        wrapped(BYTES, &[]),
+        wrapped(STRING, &[]),
+        wrapped(TUPLE, &[]),
+        [&bool[..], &wrapped(OPEN, &[])].concat(),
+        [&bool[..], &wrapped(FIXED, &[&2_u64.to_le_bytes()])].concat(),
+    ];
+    for kind in kinds {
+        for name in ["", "a", "indexed", "calldata", "memory"] {
+            let name = wrapped(NAME, &[name.as_bytes()]);
+            for mark in UNMARKED..=MEMORY + 1 {
+                placed(&wrapped(FIELD, &[&mark.to_le_bytes(), &name, &kind]), &mut take);
+            }
+        }
+    }
+}
+
+/// A field by itself, in each list, and each time in a tuple.
+fn placed(field: &[u8], take: &mut impl FnMut(&[u8])) {
+    let name = wrapped(NAME, &[b"f"]);
+    let (none, list) = (wrapped(LIST, &[]), wrapped(LIST, &[field]));
+    let tuple = wrapped(TUPLE, &[field]);
+    let around = wrapped(FIELD, &[&UNMARKED.to_le_bytes(), &wrapped(NAME, &[]), &tuple]);
+    take(field);
+    take(&around);
+    for list in [list, wrapped(LIST, &[&around])] {
+        let list = &list;
+        take(&wrapped(FUNCTION, &[&PAYABLE, &name, list, &none]));
+        take(&wrapped(FUNCTION, &[&PAYABLE, &name, &none, list]));
+        take(&wrapped(CONSTRUCTOR, &[&PAYABLE, list]));
+        take(&wrapped(EVENT, &[&NOT_ANONYMOUS, &name, list]));
+        take(&wrapped(ERROR, &[&name, list]));
+    }
 }

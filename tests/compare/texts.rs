@@ -1,4 +1,5 @@
 //! The texts that are compared, made anew in each run: with one count and seed always the same.
+use crate::marks::{LOCATIONS, UNMARKED};
 use crate::random::Random;
 
 const HEADS: [&str; 4] = ["function f", "constructor", "event e", "error e"];
@@ -30,6 +31,7 @@ pub fn each(count: usize, seed: u64, mut take: impl FnMut(&[u8])) {
     edge_bytes(&mut counted);
     nesting(&mut counted);
     long(&mut counted);
+    located(&mut |text, _, _| counted(text.as_bytes()));
     let left = count.saturating_sub(made);
     short(left / 3, &mut take);
     let mut maker = Maker { random: Random::new(seed), out: vec![], loose: false, deep: 0 };
@@ -136,15 +138,43 @@ fn long(take: &mut impl FnMut(&[u8])) {
     }
 }
 
+/// Texts whose own lists have only fields with one mark and one name, which are told: place words at
+/// kinds that admit a data location, with names that could be taken for one, and the same words as
+/// names at kinds that admit none.
+pub fn located(take: &mut impl FnMut(&str, u16, &str)) {
+    let lists = [
+        "function f(~)", "function f()returns(~)", "constructor(~)", "function f(~)view returns (~);",
+        "function f(~, ~ ,~)", "constructor(~,~)payable",
+    ];
+    let admit = [
+        "string ", "bytes ", "()", "() ", "(uint)", "(string memory) ", "(string memory,bytes a)[2]",
+        "bool[] ", "function[1] ", "bytes32[][2] ", "((int)[]memory)",
+    ];
+    for list in lists {
+        let mut put = |field: String, mark, name| take(&list.replace('~', &field), mark, name);
+        for (word, mark) in LOCATIONS {
+            for kind in admit {
+                for name in ["", "a", "indexed", "calldata", "memory"] {
+                    put(format!("{kind}{word} {name}"), mark, name);
+                }
+            }
+            for kind in ["bool", "uint", "int8", "bytes32", "address", "function"] {
+                put(format!("{kind} {word}"), UNMARKED, word);
+            }
+        }
+    }
+}
+
 // --- exhaustive short texts ---------------------------------------------------------------
 
 /// Where strings of tokens are put: what stands before them, behind them, and the tokens.
-const PLACES: [(&str, &str, &[&str]); 8] = [
+const PLACES: [(&str, &str, &[&str]); 9] = [
     ("", "", &["int", "uint", "bytes", "8", "3", "[", "]", "+", "0"]),
     ("", "", &["function", "constructor", "event", "error", " ", "f", "()", ";"]),
     ("function f", "", &["(", ")", ",", "int", " ", "a", "é"]),
     ("function f(", ")", &["(", ")", ",", "bool", " ", "[2]", "a"]),
     ("constructor(", ")", &["string", "uint", "memory", "calldata", "[]", "()", " ", ","]),
+    ("function f(int)returns(", ")", &["bytes", "memory", "calldata", "(", ")", "a", " ", ","]),
     ("event e(", ")", &["int", "indexed", "()", " ", ",", "a"]),
     ("error e((int)", ")", &["[", "]", "2", " ", "+", ",", "a"]),
     ("function f()", "", &["pure", "payable", "returns", "()", " ", ";", "x"]),
