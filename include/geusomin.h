@@ -112,15 +112,18 @@ static inline const char *geusomin_refusal_text(uint32_t number)
 /*
  * Records. A record is its length, 4 bytes that count the whole record; its record kind, 2 bytes; its body. Numbers are
  * little-endian. The layout of every body, and when a record is well formed, stand in docs/01-scope.md, section "One
- * call, from text to line", paragraph "Record". Three numbers of 2 bytes each tell what else a text said:
+ * call, from text to line", paragraph "Record"; order 1 of docs/02-change-requests.md adds the marks 2 and 3. Three
+ * numbers of 2 bytes each tell what else a text said:
  *
- *   mark        of a field: 1 where `indexed` stands behind its kind, in an event's own list; else 0
+ *   mark        of a field: 1 where `indexed` stands behind its kind, in an event's own list; 2 where `calldata` and 3 where
+ *               `memory` stands there, in a function's or a constructor's own lists, at an array, a tuple, `bytes` or
+ *               `string`; else 0
  *   mutability  of a function: 0 pure, 1 view, 2 none stated, 3 payable; of a constructor: 2 or 3
  *   anonymous   of an event: 1 where `anonymous` stands behind its list; else 0
  *
- * A field record may be taken out of its list and handed to the calls that take a field. One with mark 1, out of an
- * event's list, is not well formed by itself: mark 1 stands in an event's own list only. With its mark, bytes 6 and 7,
- * set to 0 it is.
+ * A field record may be taken out of its list and handed to the calls that take a field. One with mark 1, 2 or 3 is not
+ * well formed by itself: a mark other than 0 stands in a declaration's own lists only. With its mark, bytes 6 and 7, set
+ * to 0 it is.
  */
 
 /* The record kinds of what the calls write and take: bytes 4 and 5 of a record. */

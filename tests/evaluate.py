@@ -4,8 +4,10 @@
 Usage: tests/evaluate.py [COUNT] [LONGEST]
 Takes COUNT rows (default 400) spread evenly over tests/oracle/answers.txt, of texts of at most LONGEST bytes
 (default 160), and states for each, as a theorem that the checker has to compute, that the definitions give the
-Rust's record, canonical and signature text, or its refusal, position and message. The theorems stand in a crate
-of a temporary copy of the repository. The exit status is 0 only if all of them hold.
+Rust's record, canonical and signature text, or its refusal, position and message. The Rust forgets place words: of
+a text that has one, the record is compared with marks 2 and 3 of own lists set to 0, and the lines are those of the
+record that the definitions write. The theorems stand in a crate of a temporary copy of the repository. The exit
+status is 0 only if all of them hold.
 """
 import pathlib
 import shutil
@@ -26,6 +28,40 @@ use Rattle.model.specs.Answer.{writes, refused, outcome}
 use Rattle.model.specs.Calls.{readOutput, kindOutput, canonicalOutput, signatureOutput, kindTextOutput}
 use Rattle.model.specs.Message.{messageOutput}
 use Rattle.model.proofs.Evaluation.{evaluation}
+use Rattle.evaluated.proofs.Forgotten.{ofWritten, forgotten}
+"""
+
+PLACE_WORDS = (b"calldata", b"memory")
+FORGOTTEN = """-- Records without place words: marks 2 and 3 of a function's or a constructor's own lists are set to 0.
+use mathlib.Core.Bool.{true, false, _||_}
+use mathlib.Core.List.{List}
+use Prim.Native.Nat.{ℕ}
+use lib.Dec.{eqb}
+use Rattle.model.specs.Tree.{Field, field, Fields, noField, moreFields, unmarked, inCalldata, inMemory, Declaration}
+use Rattle.model.specs.Record.{encode, decode}
+use Rattle.model.specs.Answer.{Output, writes, refuses}
+use Rattle.model.specs.Calls.{ofRecord}
+
+abbrev forgetMark : ℕ → ℕ
+forgetMark m = elim (eqb m inCalldata || eqb m inMemory) [ true ↦ unmarked | false ↦ m ]
+
+abbrev forgetMarks : Fields → Fields
+forgetMarks noField = noField
+forgetMarks (moreFields (field m nm b ss) fs) = moreFields (field (forgetMark m) nm b ss) (forgetMarks fs)
+
+abbrev forget : Declaration → Declaration
+forget (Declaration.function m nm ins outs) = Declaration.function m nm (forgetMarks ins) (forgetMarks outs)
+forget (Declaration.constructor m ins) = Declaration.constructor m (forgetMarks ins)
+forget (Declaration.event a nm ins) = Declaration.event a nm ins
+forget (Declaration.error nm ins) = Declaration.error nm ins
+
+-- what a call answers to the bytes that another writes
+abbrev pub ofWritten : (List ℕ → Output) → Output → Output
+ofWritten f (writes b) = f b
+ofWritten f (refuses w p) = refuses w p
+
+abbrev pub forgotten : List ℕ → Output
+forgotten b = ofRecord (decode b) (λ d. writes (encode 4 (forget d)))
 """
 
 
@@ -33,6 +69,10 @@ def numbers(hexed):
     """The bytes as a list of the checker's."""
     data = b"" if hexed == "-" else bytes.fromhex(hexed)
     return "(" + "".join(f"{b} ∷ " for b in data) + "[])"
+
+
+def has_place_word(hexed):
+    return hexed != "-" and any(word in bytes.fromhex(hexed) for word in PLACE_WORDS)
 
 
 def is_ascii(hexed):
@@ -45,12 +85,17 @@ def claims(row):
     output = f"kindOutput {numbers(text)}" if name == "kind" else f"readOutput call.{name.capitalize()} {numbers(text)}"
     if outcome == "ok":
         record, canonical, signature = rest
-        yield f"{output} ≡ writes {numbers(record)}"
+        if has_place_word(text):
+            written = output
+            yield f"ofWritten forgotten ({written}) ≡ writes {numbers(record)}"
+        else:
+            written = f"writes {numbers(record)}"
+            yield f"{output} ≡ {written}"
         if canonical != "-":
             call = "kindTextOutput" if name == "kind" else "canonicalOutput"
-            yield f"{call} {numbers(record)} ≡ writes {numbers(canonical)}"
+            yield f"ofWritten {call} ({written}) ≡ writes {numbers(canonical)}"
         if signature != "-":
-            yield f"signatureOutput {numbers(record)} ≡ writes {numbers(signature)}"
+            yield f"ofWritten signatureOutput ({written}) ≡ writes {numbers(signature)}"
     else:
         number, position, message = rest
         yield f"outcome 100000 ({output}) ≡ refused {number} {position}"
@@ -68,7 +113,8 @@ def sample(count, longest):
 def write_modules(proofs, rows):
     """Some rows to a module; answers how many equations there are."""
     equations = 0
-    lib = []
+    (proofs / "Forgotten.antt").write_text(FORGOTTEN)
+    lib = ["pub mod Forgotten\n"]
     for start in range(0, len(rows), ROWS_A_MODULE):
         module = f"Rows{start // ROWS_A_MODULE}"
         lib.append(f"pub mod {module}\n")

@@ -1,15 +1,19 @@
 """What the C program is asked, line by line, and what it has to answer.
 
 The Rust's list says what is read of a text, and canonical text and signature of what was read; a name and the kinds of its
-fields stand in the canonical text. What of records is wrong, and with which refusal, is document 01's, and so are the limits
-of texts.
+fields stand in the canonical text and the signature. The Rust forgets place words, so its records say nothing of them; the
+marks that stand for them are order 1's. What of records is wrong, and with which refusal, is document 01's and order 1's;
+the limits of texts are document 01's.
 """
+import itertools
 import re
 
 UNLIMITED = "-"
 NOT_WELL_FORMED, WRONG_SORT, NO_ROOM = "no 15 0", "no 16 0", "no 20 0"
 FIELD, NAME, LIST, FUNCTION, CONSTRUCTOR, EVENT, ERROR = 0x10, 0x11, 0x12, 0x20, 0x21, 0x22, 0x23
 KEYWORDS = {FUNCTION: "function", CONSTRUCTOR: "constructor", EVENT: "event", ERROR: "error"}
+UNMARKED, INDEXED, CALLDATA, MEMORY = range(4)
+LOCATIONS = {CALLDATA: b"calldata", MEMORY: b"memory"}
 RECORD_CALLS = ("canonical", "signature", "kind_text", "name")
 
 
@@ -54,7 +58,7 @@ def record(kind, *parts):
     return number(6 + len(body), 4) + number(kind, 2) + body
 
 
-def field(kind, name=b"", mark=0, suffixes=b""):
+def field(kind, name=b"", mark=UNMARKED, suffixes=b""):
     return record(FIELD, number(mark, 2), record(NAME, name), kind, suffixes)
 
 
@@ -82,42 +86,46 @@ def nested(depth, *inner):
     return kind
 
 
-UINT, BOOL = record(2, number(256, 2)), record(4)
+UINT, BOOL, BYTES32 = record(2, number(256, 2)), record(4), record(5, number(32, 2))
+CODE, BYTES, STRING, EMPTY = (record(kind) for kind in (6, 7, 8, 9))  # `function`, `bytes`, `string`, `()`
 
 
 def kind_of(r):
     return r[4] | r[5] << 8
 
 
-def parts(body):
-    """The records that stand behind one another."""
+def mark_of(one):
+    return one[6] | one[7] << 8
+
+
+def parts(body, at):
+    """The records that stand behind one another, each with its place, the first one's given."""
     while body:
         n = int.from_bytes(body[:4], "little")
-        yield body[:n]
-        body = body[n:]
+        yield at, body[:n]
+        at, body = at + n, body[n:]
 
 
-def inputs(r):
-    """The fields of a declaration's own list."""
+def own_fields(r):
+    """The fields of a declaration's own lists, each with its place."""
     head = 6 if kind_of(r) == ERROR else 8
-    lists = [part for part in parts(r[head:]) if kind_of(part) == LIST]
-    return list(parts(lists[0][6:]))
+    for at, part in parts(r[head:], head):
+        if kind_of(part) == LIST:
+            yield from parts(part[6:], at + 6)
 
 
 def heads(r, at=0):
     """Where the heads of a record and of the records in it stand."""
     yield at
-    kind = kind_of(r)
-    inner = {9: 6, FIELD: 8, LIST: 6, FUNCTION: 8, CONSTRUCTOR: 8, EVENT: 8, ERROR: 6}.get(kind)
-    for part in parts(r[inner:]) if inner else ():
-        yield from heads(part, at + inner)
-        inner += len(part)
+    inner = {9: 6, FIELD: 8, LIST: 6, FUNCTION: 8, CONSTRUCTOR: 8, EVENT: 8, ERROR: 6}.get(kind_of(r))
+    for place, part in parts(r[inner:], at + inner) if inner else ():
+        yield from heads(part, place)
 
 
 # The Rust's list.
 
 def kinds_in(canonical):
-    """The kinds of a canonical text."""
+    """The kinds of a canonical text, or of the outputs behind it."""
     kinds, depth = [b""], 0
     for c in canonical[canonical.index(b"(") + 1:-1]:
         depth += (c == ord("(")) - (c == ord(")"))
@@ -129,15 +137,14 @@ def kinds_in(canonical):
 
 
 def of_field(r, text):
-    """A field by itself. One with mark 1 is none, and is one with mark 0."""
-    mark, name = r[6], next(parts(r[8:]))[6:]
-    whole = mark == 0
+    """A field by itself. One with a mark is none, and is one with mark 0, whatever its name."""
+    whole, (_, name) = mark_of(r) == UNMARKED, next(parts(r[8:], 8))
     yield from answered("kind_text", r, text if whole else NOT_WELL_FORMED)
-    yield from answered("name", r, name if whole else NOT_WELL_FORMED)
+    yield from answered("name", r, name[6:] if whole else NOT_WELL_FORMED)
     for call in ("canonical", "signature"):
         yield from refused(call, r, NOT_WELL_FORMED)
     if not whole:
-        yield from of_field(r[:6] + number(0, 2) + r[8:], text)
+        yield from of_field(r[:6] + number(UNMARKED, 2) + r[8:], text)
 
 
 def of_declaration(r, canonical, signature):
@@ -147,14 +154,48 @@ def of_declaration(r, canonical, signature):
     yield from answered("name", r, WRONG_SORT if kind == CONSTRUCTOR else canonical[:canonical.index(b"(")])
     yield from refused("kind_text", r, NOT_WELL_FORMED)
     if kind != CONSTRUCTOR:
-        fields, kinds = inputs(r), kinds_in(canonical)
+        fields, kinds = list(own_fields(r)), kinds_in(canonical) + (kinds_in(signature[len(canonical):]) if kind == FUNCTION else [])
         assert len(fields) == len(kinds)
-        for one, text in zip(fields, kinds):
+        for (_, one), text in zip(fields, kinds):
             yield from of_field(one, text)
 
 
+def is_read(row):
+    return row.split()[2] == "ok"
+
+
+def reading(row):
+    """The reading call of a row, lent enough."""
+    call, given, *_ = row.split()
+    return f"{call} {given} {UNLIMITED}"
+
+
+def forgotten(r, rust):
+    """A copy of a record without place words: marks 2 and 3 of a function's or a constructor's own lists, whose places are those of the
+    Rust's record, are set to 0."""
+    copy = bytearray(r)
+    for at, _ in own_fields(rust) if kind_of(rust) in (FUNCTION, CONSTRUCTOR) else ():
+        mark = slice(at + 6, at + 8)
+        if copy[mark] in (number(CALLDATA, 2), number(MEMORY, 2)):
+            copy[mark] = number(UNMARKED, 2)
+    return bytes(copy)
+
+
+def as_written(row, answer):
+    """The row with the record that its reading call answers, or nothing where that is not the Rust's: a text without a place word has the
+    Rust's very record, and one with such words has it once they are forgotten."""
+    call, given, verdict, rust, *rest = row.split()
+    written = re.fullmatch(r"ok ((?:[0-9a-f]{2})+)", answer)
+    if not written:
+        return None
+    here, there = unhexed(written[1]), unhexed(rust)
+    if any(word in unhexed(given) for word in LOCATIONS.values()):
+        here = forgotten(here, there)
+    return " ".join((call, given, verdict, written[1], *rest)) if here == there else None
+
+
 def of_row(row):
-    """The calls that a row of the list tells of."""
+    """The calls that a row of the list tells of; the calls on records get the row's record as it is."""
     call, given, verdict, *rest = row.split()
     text = unhexed(given)
     if call != "kind":
@@ -235,8 +276,9 @@ def message_of_row(row):
 
 def damaged():
     """Records that are not well formed."""
-    whole = function(field(nested(2), b"a", suffixes=record(0xA, number(3, 8)) + record(0xB)), field(UINT), outputs=[field(BOOL)])
-    for r in (whole, constructor(field(UINT, b"a")), event(field(UINT, b"a", mark=1)), error(field(BOOL)), field(UINT, b"a")):
+    array = field(nested(2), b"a", MEMORY, record(0xA, number(3, 8)) + record(0xB))
+    whole = function(array, field(UINT), outputs=[field(BOOL), field(STRING, mark=CALLDATA)])
+    for r in (whole, constructor(field(UINT, b"a")), event(field(UINT, b"a", INDEXED)), error(field(BOOL)), field(UINT, b"a")):
         for n in range(len(r)):
             yield r[:n]
         yield r + b"\0"
@@ -257,14 +299,10 @@ def damaged():
     yield field(UINT, suffixes=UINT)
     yield field(record(0xB))
     yield from (field(UINT, name) for name in (b"1", b"a ", b"a-b", b"\xc3\xa9"))
-    yield from (field(UINT, mark=mark) for mark in (1, 2, 256))
+    yield from (field(UINT, mark=256), event(field(UINT, mark=256 + INDEXED)), function(field(STRING, mark=256 + MEMORY)))
     for name in (b"", b"1", b"f()", b"\xc3\xa9"):
         yield from (function(name=name), event(name=name), error(name=name))
     yield from (function(mutability=4), function(mutability=256), constructor(mutability=0), constructor(mutability=1), event(anonymous=2))
-    yield from (function(field(UINT, mark=1)), constructor(field(UINT, mark=1)), error(field(UINT, mark=1)), event(field(UINT, mark=2)))
-    yield event(field(UINT, b"indexed"))
-    yield event(field(record(9, field(UINT, mark=1))))
-    yield function(outputs=[field(UINT, mark=1)])
     yield from (field(nested(33)), function(field(nested(33))), function(outputs=[field(nested(33))]))
     yield longest(1)
 
@@ -285,9 +323,82 @@ def of_records():
     yield from of_field(field(nested(32), b"indexed"), deepest)
     yield from of_declaration(error(field(nested(32))), b"E(" + deepest + b")", b"")
     yield from of_declaration(function(mutability=3, outputs=[field(UINT, b"indexed")]), b"f()", b"f():(uint256)")
-    yield from of_declaration(event(field(BOOL, b"indexed", mark=1), field(record(9, field(BOOL, b"indexed"))), anonymous=1), b"E(bool,(bool))", b"")
+    yield from of_declaration(event(field(BOOL, b"indexed", INDEXED), field(record(9, field(BOOL, b"indexed"))), anonymous=1), b"E(bool,(bool))", b"")
     longest_suffix = record(0xA, number(2 ** 64 - 1, 8))
     yield from of_field(field(UINT, suffixes=longest_suffix * 2000), b"uint256" + b"[18446744073709551615]" * 2000)
+
+
+def of_marks():
+    """Each mark with each name, at kinds that admit a place word and kinds that do not, wherever a field may stand. A mark stands where its
+    word is a mark word, and there mark 0 has none of these words for a name."""
+    for kind, suffixes, text, located in (
+        (BOOL, b"", b"bool", False), (BYTES32, b"", b"bytes32", False), (STRING, b"", b"string", True), (EMPTY, b"", b"()", True),
+        (BOOL, record(0xB), b"bool[]", True),
+    ):
+        locations = LOCATIONS if located else {}
+        for mark, name in itertools.product(range(5), (b"", b"a", b"indexed", b"calldata", b"memory")):
+            one = field(kind, name, mark, suffixes)
+            inside = field(record(9, one))
+            for words, r, canonical, signature in (
+                (locations, function(one), b"f(KIND)", b"f(KIND):()"),
+                (locations, function(outputs=[one]), b"f()", b"f():(KIND)"),
+                (locations, constructor(one), b"", b""),
+                ({INDEXED: b"indexed"}, event(one), b"E(KIND)", b""),
+                ({}, error(one), b"E(KIND)", b""),
+                ({}, function(inside), b"f((KIND))", b"f((KIND)):()"),
+                ({}, event(inside), b"E((KIND))", b""),
+                ({}, one, b"KIND", b""),
+            ):
+                if not (mark in words or mark == UNMARKED and name not in words.values()):
+                    for call in RECORD_CALLS:
+                        yield from refused(call, r, NOT_WELL_FORMED)
+                elif r is one:
+                    yield from of_field(one, text)
+                else:
+                    yield from of_declaration(r, canonical.replace(b"KIND", text), signature.replace(b"KIND", text))
+
+
+# Texts with place words, of which the Rust says less.
+
+def of_text(text, r, canonical, signature):
+    """A text that is read, by the general call and by the one named for its keyword."""
+    for call in ("general", KEYWORDS[kind_of(r)]):
+        yield from written(call, text, r)
+        yield from written(f"message:{call}", text, b"")
+    yield from of_declaration(r, canonical, signature)
+
+
+def of_refused_text(text, keyword, number, position):
+    """A text that is refused by both."""
+    for call in ("general", keyword):
+        yield from refused(call, text, f"no {number} {position}")
+        yield from written(f"message:{call}", text, message(call, text, number, position))
+
+
+def of_place_words():
+    """Each list as a function's inputs, as its outputs and as a constructor's, and others that are as they were."""
+    for list_text, one, kind in (
+        (b"(string memory)", field(STRING, mark=MEMORY), b"string"),
+        (b"(bytes calldata)", field(BYTES, mark=CALLDATA), b"bytes"),
+        (b"(function[1] memory)", field(CODE, mark=MEMORY, suffixes=record(0xA, number(1, 8))), b"function[1]"),
+        (b"((uint)memory)", field(record(9, field(UINT)), mark=MEMORY), b"(uint256)"),
+        (b"(() memory)", field(EMPTY, mark=MEMORY), b"()"),
+        (b"(string memory memory)", field(STRING, b"memory", MEMORY), b"string"),
+        (b"(string memory calldata)", field(STRING, b"calldata", MEMORY), b"string"),
+        (b"((string memory) calldata a)", field(record(9, field(STRING, b"memory")), b"a", CALLDATA), b"(string)"),
+        (b"(string memory s)", field(STRING, b"s", MEMORY), b"string"),
+        (b"(string calldata)", field(STRING, mark=CALLDATA), b"string"),
+        (b"(uint memory)", field(UINT, b"memory"), b"uint256"),
+        (b"(bytes32 calldata)", field(BYTES32, b"calldata"), b"bytes32"),
+    ):
+        yield from of_text(b"function f" + list_text, function(one), b"f(%s)" % kind, b"f(%s):()" % kind)
+        yield from of_text(b"function f() returns " + list_text, function(outputs=[one]), b"f()", b"f():(%s)" % kind)
+        yield from of_text(b"constructor" + list_text, constructor(one), b"", b"")
+    yield from of_text(b"event E(string memory)", event(field(STRING, b"memory")), b"E(string)", b"")
+    yield from of_text(b"error E(string calldata)", error(field(STRING, b"calldata")), b"E(string)", b"")
+    yield from of_refused_text(b"function f(address memory a)", "function", 3, 26)
+    yield from of_refused_text(b"function f(string storage memory)", "function", 3, 26)
+    yield from of_refused_text(b"function f(string memory 1)", "function", 3, 25)
 
 
 # Texts at the limits, where the Rust is not asked.
