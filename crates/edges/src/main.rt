@@ -1,13 +1,9 @@
 // Document 01's edges, one line each: the call, the text, and the answer. The file stdout has what document 01 says of each.
-use libc::STDOUT_FILENO;
 use model::Answer;
 use model::Call as Reading;
-use model::Refusal;
+use tables::FILL;
 ghost use Prim.Native.Nat.{_≤_};
 ghost use lib.ListN.{length};
-
-// What a lent buffer holds beforehand.
-const FILL: u8 = 0xA5;
 
 // The calls that are shown.
 enum Call {
@@ -39,42 +35,22 @@ fn ask_in(room: usize, call: Call, text: &[u8], out: &mut [u8]) -> Answer
 
 fn print_call(call: Call) {
     match call {
-        Call::General => print(b"general"),
-        Call::Function => print(b"function"),
-        Call::Constructor => print(b"constructor"),
-        Call::Event => print(b"event"),
-        Call::Error => print(b"error"),
-        Call::Kind => print(b"kind"),
+        Call::General => tables::print(b"general"),
+        Call::Function => tables::print(b"function"),
+        Call::Constructor => tables::print(b"constructor"),
+        Call::Event => tables::print(b"event"),
+        Call::Error => tables::print(b"error"),
+        Call::Kind => tables::print(b"kind"),
     }
-}
-
-fn print(bytes: &[u8]) {
-    io::write_all(STDOUT_FILENO, bytes);
-}
-
-fn print_number(n: usize) {
-    io::print_decimal(STDOUT_FILENO, n as u64);
-}
-
-fn print_hex(bytes: &[u8]) {
-    let mut i = 0;
-    while i < bytes.len() {
-        print_byte(bytes[i]);
-        i += 1;
-    }
-}
-
-fn print_byte(byte: u8) {
-    io::print_hex(STDOUT_FILENO, byte as u64, 2);
 }
 
 // Printable bytes as they are, any other as `\x` and two digits.
 fn print_character(byte: u8) {
     if 32 <= byte && byte <= 126 {
-        print(&[byte]);
+        tables::print(&[byte]);
     } else {
-        print(b"\\x");
-        print_byte(byte);
+        tables::print(b"\\x");
+        tables::print_byte(byte);
     }
 }
 
@@ -88,59 +64,20 @@ fn print_characters(text: &[u8]) {
 
 // In quotes; of a long text the beginning, and its length.
 fn print_text(text: &[u8]) {
-    print(b" \"");
+    tables::print(b" \"");
     if text.len() <= 80 {
         print_characters(text);
-        print(b"\"");
+        tables::print(b"\"");
     } else {
         print_characters(&text[..8]);
-        print(b"...\" of ");
-        print_number(text.len());
+        tables::print(b"...\" of ");
+        tables::print_number(text.len());
     }
-}
-
-// Whether the bytes from a place on are those that the buffer held beforehand.
-fn is_kept(buffer: &[u8], from: usize) -> bool {
-    let mut i = from;
-    while i < buffer.len() {
-        if buffer[i] != FILL {
-            return false;
-        }
-        i += 1;
-    }
-    true
-}
-
-fn print_damage(buffer: &[u8], from: usize) {
-    if !is_kept(buffer, from) {
-        print(b" damaged");
-    }
-}
-
-fn print_output(length: usize, buffer: &[u8]) {
-    print(b" ok ");
-    print_number(length);
-    if length <= buffer.len() {
-        print(b" ");
-        print_hex(&buffer[..length]);
-    }
-    print_damage(buffer, length);
-}
-
-fn print_refusal(refusal: Refusal, position: usize, buffer: &[u8]) {
-    print(b" no ");
-    print_number(refusal::number(refusal) as usize);
-    print(b" ");
-    print_number(position);
-    print_damage(buffer, 0);
 }
 
 fn print_answer(answer: Answer, buffer: &[u8]) {
-    match answer {
-        Answer::Accepted { length } => print_output(length, buffer),
-        Answer::Refused { refusal, position } => print_refusal(refusal, position, buffer),
-    }
-    print(b"\n");
+    tables::print_record(answer, buffer);
+    tables::print(b"\n");
 }
 
 // A call that is lent enough.
@@ -159,8 +96,8 @@ fn row_in(room: usize, call: Call, text: &[u8])
     let mut buffer = [FILL; 64];
     print_call(call);
     print_text(text);
-    print(b" in ");
-    print_number(room);
+    tables::print(b" in ");
+    tables::print_number(room);
     let answer = ask_in(room, call, text, &mut buffer);
     print_answer(answer, &buffer);
 }
@@ -289,13 +226,13 @@ fn row_deep(call: Call, before: &[u8], tuples: usize, after: &[u8])
     let mut buffer = [FILL; 2048];
     let n = write_deep(&mut text, before, tuples, after);
     print_call(call);
-    print(b" \"");
+    tables::print(b" \"");
     print_characters(before);
-    print(b"\" ");
-    print_number(tuples);
-    print(b" \"");
+    tables::print(b"\" ");
+    tables::print_number(tuples);
+    tables::print(b" \"");
     print_characters(after);
-    print(b"\"");
+    tables::print(b"\"");
     let answer = ask(call, &text[..n], &mut buffer);
     print_brief(answer, &buffer);
 }
@@ -303,13 +240,13 @@ fn row_deep(call: Call, before: &[u8], tuples: usize, after: &[u8])
 fn print_brief(answer: Answer, buffer: &[u8]) {
     match answer {
         Answer::Accepted { length } => {
-            print(b" ok ");
-            print_number(length);
-            print_damage(buffer, length);
+            tables::print(b" ok ");
+            tables::print_number(length);
+            tables::print_damage(buffer, length);
         }
-        Answer::Refused { refusal, position } => print_refusal(refusal, position, buffer),
+        Answer::Refused { refusal, position } => tables::print_refusal(refusal, position, buffer),
     }
-    print(b"\n");
+    tables::print(b"\n");
 }
 
 // Writes as much as there is room for, and answers the place behind it.
@@ -375,28 +312,28 @@ fn ask_line_in(room: usize, line: Line, record: &[u8], out: &mut [u8]) -> Answer
 
 fn print_line(line: Line) {
     match line {
-        Line::Canonical => print(b"  canonical"),
-        Line::Signature => print(b"  signature"),
-        Line::KindText => print(b"  kind text"),
+        Line::Canonical => tables::print(b"  canonical"),
+        Line::Signature => tables::print(b"  signature"),
+        Line::KindText => tables::print(b"  kind text"),
     }
 }
 
 fn print_written(length: usize, buffer: &[u8]) {
-    print(b" ok ");
-    print_number(length);
+    tables::print(b" ok ");
+    tables::print_number(length);
     if length <= buffer.len() {
-        print(b" ");
+        tables::print(b" ");
         print_characters(&buffer[..length]);
     }
-    print_damage(buffer, length);
+    tables::print_damage(buffer, length);
 }
 
 fn print_line_answer(answer: Answer, buffer: &[u8]) {
     match answer {
         Answer::Accepted { length } => print_written(length, buffer),
-        Answer::Refused { refusal, position } => print_refusal(refusal, position, buffer),
+        Answer::Refused { refusal, position } => tables::print_refusal(refusal, position, buffer),
     }
-    print(b"\n");
+    tables::print(b"\n");
 }
 
 fn line_row(line: Line, record: &[u8]) {
@@ -411,8 +348,8 @@ fn line_row_in(room: usize, line: Line, record: &[u8])
 {
     let mut buffer = [FILL; 64];
     print_line(line);
-    print(b" in ");
-    print_number(room);
+    tables::print(b" in ");
+    tables::print_number(room);
     let answer = ask_line_in(room, line, record, &mut buffer);
     print_line_answer(answer, &buffer);
 }
@@ -420,11 +357,11 @@ fn line_row_in(room: usize, line: Line, record: &[u8])
 fn name_row(record: &[u8]) {
     let mut refusal = 99;
     let name = abi::name(record, &mut refusal);
-    print(b"  name ");
-    print_number(refusal as usize);
-    print(b" \"");
+    tables::print(b"  name ");
+    tables::print_number(refusal as usize);
+    tables::print(b" \"");
     print_characters(name);
-    print(b"\"\n");
+    tables::print(b"\"\n");
 }
 
 // Every call on one record.
@@ -445,7 +382,7 @@ fn lines_of_answer(answer: Answer, buffer: &[u8]) {
         Answer::Refused {
             refusal: _,
             position: _,
-        } => print(b"  none\n"),
+        } => tables::print(b"  none\n"),
     }
 }
 
@@ -454,7 +391,7 @@ fn lines(call: Call, text: &[u8]) {
     let mut buffer = [FILL; 256];
     print_call(call);
     print_text(text);
-    print(b"\n");
+    tables::print(b"\n");
     let answer = ask(call, text, &mut buffer);
     lines_of_answer(answer, &buffer);
 }
@@ -521,7 +458,7 @@ fn message_row(call: Call, text: &[u8], room: usize)
     requires { ⌜ room ≤ 128 ⌝ }
 {
     let mut buffer = [FILL; 128];
-    print(b"message ");
+    tables::print(b"message ");
     print_call(call);
     print_text(text);
     let answer = ask_message_in(room, call, text, &mut buffer);

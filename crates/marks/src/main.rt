@@ -39,23 +39,19 @@ enum Place {
     Alone,
 }
 
-fn print(bytes: &[u8]) {
-    io::write_all(STDOUT_FILENO, bytes);
-}
-
 fn print_number(n: u64) {
     io::print_decimal(STDOUT_FILENO, n);
 }
 
 fn print_place(place: Place) {
     match place {
-        Place::Inputs => print(b"inputs"),
-        Place::Outputs => print(b"outputs"),
-        Place::Constructor => print(b"constructor"),
-        Place::Tuple => print(b"tuple"),
-        Place::Event => print(b"event"),
-        Place::Error => print(b"error"),
-        Place::Alone => print(b"alone"),
+        Place::Inputs => tables::print(b"inputs"),
+        Place::Outputs => tables::print(b"outputs"),
+        Place::Constructor => tables::print(b"constructor"),
+        Place::Tuple => tables::print(b"tuple"),
+        Place::Event => tables::print(b"event"),
+        Place::Error => tables::print(b"error"),
+        Place::Alone => tables::print(b"alone"),
     }
 }
 
@@ -276,14 +272,14 @@ fn ask_name(record: &[u8]) -> u32 {
 // `y` where the record is well formed, `n` where it is not, and `c` for a well-formed constructor, of which there is neither line nor name.
 fn print_verdict(line: u32, name: u32) {
     if line != name {
-        print(b"?");
+        tables::print(b"?");
         return;
     }
     match line {
-        0 => print(b"y"),
-        15 => print(b"n"),
-        16 => print(b"c"),
-        _ => print(b"?"),
+        0 => tables::print(b"y"),
+        15 => tables::print(b"n"),
+        16 => tables::print(b"c"),
+        _ => tables::print(b"?"),
     }
 }
 
@@ -299,7 +295,7 @@ fn try_record(place: Place, mark: u8, word: &[u8], kind: &[u8]) {
 
 // No name and three names, in a word of four letters.
 fn try_names(place: Place, mark: u8, kind: &[u8]) {
-    print(b" ");
+    tables::print(b" ");
     try_record(place, mark, b"", kind);
     try_record(place, mark, b"a", kind);
     try_record(place, mark, b"memory", kind);
@@ -309,12 +305,12 @@ fn try_names(place: Place, mark: u8, kind: &[u8]) {
 // Each mark, one word behind the other.
 fn row(place: Place, text: &[u8], kind: &[u8]) {
     print_place(place);
-    print(b" ");
-    print(text);
+    tables::print(b" ");
+    tables::print(text);
     for mark in 0..MARKS {
         try_names(place, mark, kind);
     }
-    print(b"\n");
+    tables::print(b"\n");
 }
 
 fn rows(place: Place) {
@@ -332,11 +328,11 @@ fn match_name(place: Place, mark: u8, word: &[u8], kind: &[u8], read: &[u8]) {
     let mut out = [0; 128];
     let n = record(place, &mut out, mark, word, kind);
     if text::equal(&out[..n], read) {
-        print(b" ");
+        tables::print(b" ");
         print_number(mark as u64);
-        print(b" \"");
-        print(word);
-        print(b"\"");
+        tables::print(b" \"");
+        tables::print(word);
+        tables::print(b"\"");
     }
 }
 
@@ -363,19 +359,19 @@ fn print_read(place: Place, kind: &[u8], answer: Answer, out: &[u8]) {
             }
         }
         Answer::Refused { refusal, position } => {
-            print(b" no ");
+            tables::print(b" no ");
             print_number(refusal::number(refusal) as u64);
-            print(b" ");
+            tables::print(b" ");
             print_number(position as u64);
         }
     }
-    print(b"\n");
+    tables::print(b"\n");
 }
 
 // What the general call reads of a text with one field, at a place and of a kind.
 fn read(text: &[u8], place: Place, kind: &[u8]) {
     let mut out = [0; 128];
-    print(text);
+    tables::print(text);
     let answer = declaration::parse_declaration(text, &mut out);
     print_read(place, kind, answer, &out);
 }

@@ -43,23 +43,19 @@ enum Verdict {
 
 // Printing.
 
-fn print(bytes: &[u8]) {
-    io::write_all(STDOUT_FILENO, bytes);
-}
-
 fn print_number(n: u64) {
     io::print_decimal(STDOUT_FILENO, n);
 }
 
 fn print_name(call: usize) {
     match call {
-        GENERAL => print(b"general"),
-        FUNCTION => print(b"function"),
-        CONSTRUCTOR => print(b"constructor"),
-        EVENT => print(b"event"),
-        ERROR => print(b"error"),
-        KIND => print(b"kind"),
-        _ => print(b"other"),
+        GENERAL => tables::print(b"general"),
+        FUNCTION => tables::print(b"function"),
+        CONSTRUCTOR => tables::print(b"constructor"),
+        EVENT => tables::print(b"event"),
+        ERROR => tables::print(b"error"),
+        KIND => tables::print(b"kind"),
+        _ => tables::print(b"other"),
     }
 }
 
@@ -67,11 +63,11 @@ fn print_counts(call: usize, counts: &[u64; 16])
     requires { ⌜ call ≤ 6 ⌝ }
 {
     print_name(call);
-    print(b": ");
+    tables::print(b": ");
     print_number(counts[2 * call]);
-    print(b" agree, ");
+    tables::print(b" agree, ");
     print_number(counts[2 * call + 1]);
-    print(b" differ\n");
+    tables::print(b" differ\n");
 }
 
 fn print_summary(counts: &[u64; 16]) {
@@ -85,7 +81,7 @@ fn print_summary(counts: &[u64; 16]) {
 // What is left where no line ends any more.
 fn print_rest(held: usize) {
     if held != 0 {
-        print(b"a line has no end, or is longer than the window\n");
+        tables::print(b"a line has no end, or is longer than the window\n");
     }
 }
 
@@ -110,9 +106,9 @@ fn slot(verdict: Verdict) -> usize
 fn count_differing(counts: &mut [u64; 16]) {
     count(counts, DIFFERING);
     if counts[DIFFERING] <= NAMED {
-        print(b"row ");
+        tables::print(b"row ");
         print_number(counts[ROWS]);
-        print(b" differs\n");
+        tables::print(b" differs\n");
     }
 }
 
@@ -127,43 +123,7 @@ fn count_row(counts: &mut [u64; 16], call: usize, verdict: Verdict)
     }
 }
 
-// Fields and hex.
-
-// The place of a byte from a place on, or the end.
-fn find(byte: u8, s: &[u8], from: usize) -> usize
-    requires { ⌜ from ≤ length (now s) ⌝ }
-    ensures { λ r. ⌜ (from ≤ r) × (r ≤ length (now (s .entry))) ⌝ }
-{
-    let mut i = from;
-    while i < s.len() {
-        if s[i] == byte {
-            return i;
-        }
-        i += 1;
-    }
-    i
-}
-
-// Where the field behind the one at a place begins, or the end.
-fn next_field(row: &[u8], from: usize) -> usize
-    requires { ⌜ from ≤ length (now row) ⌝ }
-    ensures { λ r. ⌜ r ≤ length (now (row .entry)) ⌝ }
-{
-    let end = find(b' ', row, from);
-    if end < row.len() { end + 1 } else { end }
-}
-
-// The field with a number, from 0; empty where there is none.
-fn field<'a>(row: &'a [u8], number: usize) -> &'a [u8] {
-    let mut from = 0;
-    let mut left = number;
-    while 0 < left {
-        from = next_field(row, from);
-        left -= 1;
-    }
-    let end = find(b' ', row, from);
-    &row[from..end]
-}
+// Hex.
 
 // The value of a hex digit, and 16 for any other byte.
 fn digit(c: u8) -> u16
@@ -406,19 +366,19 @@ const LINE: usize = 81920;
 fn says_kind(row: &[u8], record: &[u8]) -> bool {
     let mut line = [0; LINE];
     let answer = abi::kind_text(record, &mut line);
-    says_line(field(row, 4), answer, &line)
+    says_line(tables::field(row, 4), answer, &line)
 }
 
 fn says_canonical(row: &[u8], record: &[u8]) -> bool {
     let mut line = [0; LINE];
     let answer = abi::canonical(record, &mut line);
-    says_line(field(row, 4), answer, &line)
+    says_line(tables::field(row, 4), answer, &line)
 }
 
 fn says_signature(row: &[u8], record: &[u8]) -> bool {
     let mut line = [0; LINE];
     let answer = abi::signature(record, &mut line);
-    says_line(field(row, 5), answer, &line)
+    says_line(tables::field(row, 5), answer, &line)
 }
 
 // Whether the row has the lines of this record.
@@ -434,8 +394,8 @@ fn says_record(row: &[u8], call: usize, length: usize, out: &[u8]) -> bool {
     if out.len() < length {
         return false;
     }
-    text::equal(field(row, 2), b"ok")
-        && is_record(field(row, 3), &out[..length])
+    text::equal(tables::field(row, 2), b"ok")
+        && is_record(tables::field(row, 3), &out[..length])
         && says_lines(row, call, &out[..length])
 }
 
@@ -472,22 +432,22 @@ fn says_message(row: &[u8], call: usize, text: &[u8]) -> bool {
     }
     let mut line = [0; 256];
     let answer = ask_message(call, text, &mut line);
-    says_words(field(row, 5), answer, &line)
+    says_words(tables::field(row, 5), answer, &line)
 }
 
 // A row where the Rust panics has a number and a position, but no message.
 fn is_refused(row: &[u8], call: usize, text: &[u8]) -> bool {
-    if text::equal(field(row, 2), b"panic") {
+    if text::equal(tables::field(row, 2), b"panic") {
         return true;
     }
-    text::equal(field(row, 2), b"no") && says_message(row, call, text)
+    text::equal(tables::field(row, 2), b"no") && says_message(row, call, text)
 }
 
 // Whether the row has this number and position, and the message.
 fn says_refusal(row: &[u8], call: usize, text: &[u8], refusal: Refusal, position: usize) -> bool {
     is_refused(row, call, text)
-        && is_number(field(row, 3), refusal::number(refusal) as u64)
-        && is_number(field(row, 4), position as u64)
+        && is_number(tables::field(row, 3), refusal::number(refusal) as u64)
+        && is_number(tables::field(row, 4), position as u64)
 }
 
 fn says(row: &[u8], call: usize, text: &[u8], answer: Answer, out: &[u8]) -> bool {
@@ -526,9 +486,9 @@ fn replay_text(call: usize, text: &[u8], row: &[u8], out: &mut [u8]) -> Verdict 
 
 // A text that is not decoded whole differs.
 fn replay_row(row: &[u8], text: &mut [u8], out: &mut [u8], counts: &mut [u64; 16]) {
-    let call = call_of(field(row, 0));
-    let n = decode(field(row, 1), text);
-    if is_hex(field(row, 1), &text[..n]) {
+    let call = call_of(tables::field(row, 0));
+    let n = decode(tables::field(row, 1), text);
+    if is_hex(tables::field(row, 1), &text[..n]) {
         count_row(counts, call, replay_text(call, &text[..n], row, out));
     } else {
         count_row(counts, call, Verdict::Differs);
@@ -541,7 +501,7 @@ fn replay_lines(block: &[u8], text: &mut [u8], out: &mut [u8], counts: &mut [u64
 {
     let mut at = 0;
     while at < block.len() {
-        let end = find(b'\n', block, at);
+        let end = tables::find(b'\n', block, at);
         if end == block.len() {
             return at;
         }

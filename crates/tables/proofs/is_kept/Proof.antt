@@ -1,8 +1,9 @@
-use Prim.Native.Nat.{_-_}
+use mathlib.Core.Path.{_≡_}
+use Prim.Native.Nat.{_-_, _≤_}
 use lib.ListN.{length}
 use borrow.Author.Needs.{needs}
-use Rattle.edges.proofs.is_kept.Statement.{statement}
-use Rattle.edges.proofs.is_kept.Tie as tie
+use Rattle.tables.proofs.is_kept.Statement.{statement}
+use Rattle.tables.proofs.is_kept.Tie as tie
 
 abbrev Inv-loop : tie.InvT-loop
 Inv-loop buffer from i₀ i = Unit {0}

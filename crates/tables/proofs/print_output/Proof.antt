@@ -1,8 +1,13 @@
 use mathlib.Core.Path.{sym}
 use lib.Seq.{length-take-le}
 use borrow.Author.Needs.{needs}
-use Rattle.edges.proofs.print_output.Statement.{statement}
-use Rattle.edges.proofs.print_output.Tie as tie
+use borrow.Author.Needs.{needs}
+use Rattle.tables.proofs.print_output.Statement.{statement}
+use Rattle.tables.proofs.print_output.Tie as tie
+use Rattle.tables.proofs.print.Reads as print-reads
+use Rattle.tables.proofs.print_damage.Reads as print-damage-reads
+use Rattle.tables.proofs.print_hex.Reads as print-hex-reads
+use Rattle.tables.proofs.print_number.Reads as print-number-reads
 
 slice-aggregate-print : tie.Need-slice-aggregate-print
 slice-aggregate-print c = search needs

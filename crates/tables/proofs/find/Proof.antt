@@ -1,8 +1,9 @@
+use mathlib.Core.Path.{_≡_}
 use Prim.Native.Nat.{_-_, _≤_}
 use lib.ListN.{length}
 use borrow.Author.Needs.{needs}
-use Rattle.replay.proofs.find.Statement.{statement}
-use Rattle.replay.proofs.find.Tie as tie
+use Rattle.tables.proofs.find.Statement.{statement}
+use Rattle.tables.proofs.find.Tie as tie
 
 abbrev Inv-loop : tie.InvT-loop
 Inv-loop byte s from i₀ i = (from ≤ i) × (i ≤ length s)

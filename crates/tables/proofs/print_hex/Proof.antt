@@ -1,8 +1,10 @@
-use Prim.Native.Nat.{_-_}
+use mathlib.Core.Path.{_≡_}
+use Prim.Native.Nat.{_-_, _≤_}
 use lib.ListN.{length}
 use borrow.Author.Needs.{needs}
-use Rattle.edges.proofs.print_hex.Statement.{statement}
-use Rattle.edges.proofs.print_hex.Tie as tie
+use Rattle.tables.proofs.print_hex.Statement.{statement}
+use Rattle.tables.proofs.print_hex.Tie as tie
+use Rattle.tables.proofs.print_byte.Reads as print-byte-reads
 
 abbrev Inv-loop : tie.InvT-loop
 Inv-loop bytes i₀ i = Unit {0}
