@@ -26,7 +26,7 @@ use Rattle.fields.specs.Words.{WordIs}
 use Rattle.fields.specs.Scratch.{toRead, bytesOf, Room}
 use Rattle.fields.proofs.Spots.{word-is, Small, lookup-small, option-none, option-some}
 use Rattle.fields.proofs.Family.{is-got, is-bad, is-deep, of-got, of-bad, of-deep}
-use Rattle.declaration.specs.Stages.{Did, Took, keywordIs, identOf, listIn, returnsOf, sortOf, nameOf, wordsOf, absent, statedBy, StatedIs, outputsOf, codeOf, numberOf, frontLength, frontOf, declarationOf, tailOf, TailIs, bodyOf, Whole}
+use Rattle.declaration.specs.Stages.{Did, Took, keywordIs, identOf, listIn, returnsOf, sortOf, nameOf, wordsOf, absent, statedBy, OptionIs, statedOf, StatedIs, outputsOf, codeOf, numberOf, frontLength, frontOf, declarationOf, tailOf, TailIs, bodyOf, Whole}
 
 -- the word behind the inputs
 words-small : (k : Keyword) (w : List ℕ) → Small (lookup (wordsOf k) w)
@@ -37,11 +37,11 @@ words-small key.Event w = lookup-small (entry (ascii "anonymous") 1 ∷ []) (ome
 words-small key.Error w = tt
 
 module _ (s : List ℕ) (at a e m : ℕ) (k : Keyword) (h : at ≤ length s) (i : WordIs s at a e) (q : m ≡ statedBy k (take (e - a) (drop a s))) where
-  pub not-stated : (d : ℕ) → m ≡ 256 → d ≡ absent k → StatedIs s at k d at
+  pub not-stated : (d : ℕ) → m ≡ 256 → d ≡ absent k → OptionIs s at k d at
   unfolding statedBy
   not-stated d z f = record { same = option-none s at a e m i (wordsOf k) (absent k) q (words-small k (word s at)) z ∙ ap (λ (x : ℕ). got x at) (sym f); low = omega arith; inside = h }
 
-  pub stated : (m ≡ 256 → ⊥) → StatedIs s at k m e
+  pub stated : (m ≡ 256 → ⊥) → OptionIs s at k m e
   unfolding statedBy
   stated n = record { same = option-some s at a e m i (wordsOf k) (absent k) q n; low = omega (arith, i .low, i .order); inside = i .inside }
 
@@ -333,35 +333,35 @@ module _ (s : List ℕ) where
   Is k = onAns (encode 4) (exec (parserOf k) s) ≡ then (keyword (keywordText k) s 0) (λ _ n. bodyOf k s n)
 
   function-is : Is key.Function
-  unfolding exec K reading.function bodyOf tailOf nameOf identOf listIn returnsOf sortOf wordsOf absent outputsOf then
+  unfolding exec K reading.function bodyOf tailOf nameOf identOf listIn returnsOf sortOf statedOf outputsOf then
   function-is =
       through (encode 4) K (keyword (keywordText key.Function) s 0) _ _ (λ _ n₁.
       through-on (encode 4) K (encodeName 4) (ident s n₁) _ _ (λ nm n₂.
       through-on (encode 4) K (encodeList 4) (fields (sortOf key.Function) s n₂) _ _ (λ ins n₃.
-      through (encode 4) K (option (wordsOf key.Function) (absent key.Function) s n₃) _ _ (λ m n₄.
+      through (encode 4) K (statedOf key.Function s n₃) _ _ (λ m n₄.
       through-on (encode 4) K (encodeList 4) (returns s n₄) _ _ (λ outs n₅.
       last (Declaration.function m nm ins outs) _ (end s n₅) (encode-function m nm ins outs))))))
 
   constructor-is : Is key.Constructor
-  unfolding exec K reading.constructor bodyOf tailOf nameOf listIn sortOf wordsOf absent outputsOf then
+  unfolding exec K reading.constructor bodyOf tailOf nameOf listIn sortOf statedOf wordsOf absent outputsOf then
   constructor-is =
       through (encode 4) K (keyword (keywordText key.Constructor) s 0) _ _ (λ _ n₁.
       through-on (encode 4) K (encodeList 4) (fields (sortOf key.Constructor) s n₁) _ _ (λ ins n₃.
-      through (encode 4) K (option (wordsOf key.Constructor) (absent key.Constructor) s n₃) _ _ (λ m n₄.
+      through (encode 4) K (statedOf key.Constructor s n₃) _ _ (λ m n₄.
       last (Declaration.constructor m ins) _ (end s n₄) (encode-constructor m ins))))
 
   event-is : Is key.Event
-  unfolding exec K reading.event bodyOf tailOf nameOf identOf listIn sortOf wordsOf absent outputsOf then
+  unfolding exec K reading.event bodyOf tailOf nameOf identOf listIn sortOf statedOf wordsOf absent outputsOf then
   event-is =
       through (encode 4) K (keyword (keywordText key.Event) s 0) _ _ (λ _ n₁.
       through-on (encode 4) K (encodeName 4) (ident s n₁) _ _ (λ nm n₂.
       through-on (encode 4) K (encodeList 4) (fields (sortOf key.Event) s n₂) _ _ (λ ins n₃.
-      through (encode 4) K (option (wordsOf key.Event) (absent key.Event) s n₃) _ _ (λ m n₄.
+      through (encode 4) K (statedOf key.Event s n₃) _ _ (λ m n₄.
       last (Declaration.event m nm ins) _ (end s n₄) (encode-event m nm ins)))))
 
   -- an error has no word behind its inputs
-  no-word : (at : ℕ) → option (wordsOf key.Error) (absent key.Error) s at ≡ got 0 at
-  unfolding option keywordOf wordsOf absent
+  no-word : (at : ℕ) → statedOf key.Error s at ≡ got 0 at
+  unfolding statedOf option keywordOf wordsOf absent
   no-word at = refl
 
   error-tail : (u : List ℕ) (at : ℕ) → onAns (λ _. declarationOf key.Error 0 (u ++ [])) (end s at) ≡ tailOf key.Error u s at

@@ -1,8 +1,10 @@
 -- What each stage of reading a declaration answers and leaves, by the definitions: the four keywords differ only in the stages that they have.
 -- Assumes nothing.
 use mathlib.Core.Path.{_≡_}
+use mathlib.Core.Bool.{Bool, true, false, _||_, not}
 use mathlib.Core.List.{List, [], _∷_, _++_}
 use Prim.Native.Nat.{ℕ, _+_, _*_, _≤_}
+use lib.Dec.{ltb, eqb}
 use lib.ListN.{length}
 use Rattle.kinds.specs.Bytes.{ascii}
 use Rattle.model.specs.declared.Keyword.{Keyword}
@@ -12,9 +14,10 @@ use Rattle.model.specs.declared.Sort.the-variants.{Plain, Parameter, Event}
 use Rattle.model.specs.Tree.{notStated, isPayable}
 use Rattle.model.specs.KindText.{Entry, entry, lookup}
 use Rattle.model.specs.Parser.{Ans, got, onAns, then, ident, keyword, option, end}
-use Rattle.model.specs.Reading.{fields, returns, mutabilities, keywordText}
+use Rattle.model.specs.Reading.{fields, mutabilities, visibilities, visibility, modifiers, returns, keywordText}
 use Rattle.model.specs.Layout.{littleEndian, recordOf}
-use Rattle.model.specs.Record.{encodeName, encodeList}
+use Rattle.model.specs.Record.{encodeName, encodeList, isAbsent}
+use Rattle.model.proofs.Stands.{first}
 use Rattle.layout.specs.Buffer.{head, Wrote}
 use Rattle.fields.specs.declared.Read.{Read}
 use Rattle.fields.specs.declared.Read.the-variants.{Got, Bad, Deep}
@@ -87,10 +90,46 @@ absent key.Error = 0
 unfoldable pub statedBy : Keyword → List ℕ → ℕ
 statedBy k w = orNone (lookup (wordsOf k) w)
 
-pub record StatedIs (s : List ℕ) (at : ℕ) (k : Keyword) (m n : ℕ) : Type 0 where
-  pub same : option (wordsOf k) (absent k) s at ≡ got m n
+-- a reading from `at` on that gives x and stops at n
+pub record Stops {A : Type 0} (s : List ℕ) (at : ℕ) (a : Ans A) (x : A) (n : ℕ) : Type 0 where
+  pub same : a ≡ got x n
   pub low : at ≤ n
   pub inside : n ≤ length s
+
+-- that word: its number, or the one that stands for none, and the place behind it
+abbrev pub OptionIs : List ℕ → ℕ → Keyword → ℕ → ℕ → Type 0
+OptionIs s at k m n = Stops s at (option (wordsOf k) (absent k) s at) m n
+
+-- whether a word is a visibility word
+unfoldable pub isVisibility : List ℕ → Bool
+isVisibility w = not (isAbsent (lookup visibilities w))
+
+-- a visibility word ends at n, which is `at` where none stands
+abbrev pub VisibleIs : List ℕ → ℕ → ℕ → Type 0
+VisibleIs s at n = Stops s at (visibility s at) (ltb at n) n
+
+-- whether a byte is the first of a visibility word or a mutability word: `pure` and `payable` begin as `public` does
+abbrev pub beginsModifier : ℕ → Bool
+beginsModifier c = eqb c (first (ascii "external")) || (eqb c (first (ascii "public")) || eqb c (first (ascii "view")))
+
+-- a second word, behind a first one: a mutability word behind a visibility word, and the other way round, where m is stated so far
+unfoldable pub secondOf : Bool → ℕ → List ℕ → ℕ → Ans ℕ
+secondOf true m s at = option (wordsOf key.Function) (absent key.Function) s at
+secondOf false m s at = then (visibility s at) (λ _ n. got m n)
+
+abbrev pub SecondIs : List ℕ → ℕ → Bool → ℕ → ℕ → ℕ → Type 0
+SecondIs s at seen m k n = Stops s at (secondOf seen m s at) k n
+
+-- what stands behind the inputs. Order 2: "After a function's inputs, at most one of these and at most one mutability word may stand"; the other
+-- keywords have no visibility words
+unfoldable pub statedOf : Keyword → List ℕ → ℕ → Ans ℕ
+statedOf key.Function s at = modifiers s at
+statedOf key.Constructor s at = option (wordsOf key.Constructor) (absent key.Constructor) s at
+statedOf key.Event s at = option (wordsOf key.Event) (absent key.Event) s at
+statedOf key.Error s at = option (wordsOf key.Error) (absent key.Error) s at
+
+abbrev pub StatedIs : List ℕ → ℕ → Keyword → ℕ → ℕ → Type 0
+StatedIs s at k m n = Stops s at (statedOf k s at) m n
 
 -- "and after it optionally `returns` with a list": only a function has outputs
 unfoldable pub outputsOf : Keyword → List ℕ → ℕ → Ans (List ℕ)
@@ -128,7 +167,7 @@ declarationOf k m u = recordOf 4 (codeOf k) (numberOf k m ++ u)
 -- what follows the inputs, where u are the bytes of the name and the inputs
 unfoldable pub tailOf : Keyword → List ℕ → List ℕ → ℕ → Ans (List ℕ)
 tailOf k u s at =
-    then (option (wordsOf k) (absent k) s at) (λ m n.
+    then (statedOf k s at) (λ m n.
     then (outputsOf k s n) (λ v p.
     onAns (λ _. declarationOf k m (u ++ v)) (end s p)))
 

@@ -14,13 +14,14 @@ ghost use Rattle.kinds.specs.Bytes.{same};
 ghost use Rattle.model.specs.Parser.{onAns, end};
 ghost use Rattle.model.specs.Reading.{keywordText, exec, parserOf};
 ghost use Rattle.model.specs.Record.{encode};
+ghost use Rattle.text.specs.Found.{Skipped};
 ghost use Rattle.fields.specs.Words.{Looked};
 ghost use Rattle.fields.specs.Scratch.{Room};
 ghost use Rattle.layout.specs.Buffer.{put};
 ghost use Rattle.model.specs.Answer.{said, outcome, after};
 ghost use Rattle.model.specs.Calls.{readOutput};
 ghost use Rattle.declaration.specs.Outputs.{execOutput, Finished, FinishEnds, AdmittedIs, namedOutput, openedOutput};
-ghost use Rattle.declaration.specs.Stages.{Did, Took, sortOf, statedBy, absent, StatedIs, nameOf, outputsOf, identOf, listIn, returnsOf, keywordIs, frontLength, frontOf, TailIs, bodyOf, Whole};
+ghost use Rattle.declaration.specs.Stages.{Did, Took, sortOf, statedBy, absent, OptionIs, isVisibility, beginsModifier, VisibleIs, SecondIs, StatedIs, nameOf, outputsOf, identOf, listIn, returnsOf, keywordIs, frontLength, frontOf, TailIs, bodyOf, Whole};
 
 // Whether a word is a keyword.
 fn is_keyword(k: Keyword, w: &[u8]) -> bool
@@ -151,7 +152,10 @@ fn sort_of(k: Keyword) -> Sort
     }
 }
 
-// The number that a word behind the inputs stands for, and 256 if none.
+// The number of a word that has none.
+const NO_WORD: usize = 256;
+
+// The number that a word behind the inputs stands for, and NO_WORD if none.
 fn stated_by(k: Keyword, w: &[u8]) -> usize
     ensures { λ r. ⌜ r ≡ statedBy k (now (w .entry)) ⌝ }
 {
@@ -166,25 +170,25 @@ fn stated_by(k: Keyword, w: &[u8]) -> usize
             if text::equal(b"payable", w) {
                 return 3;
             }
-            256
+            NO_WORD
         }
         Keyword::Constructor => {
             if text::equal(b"payable", w) {
                 return 3;
             }
-            256
+            NO_WORD
         }
         Keyword::Event => {
             if text::equal(b"anonymous", w) {
                 return 1;
             }
-            256
+            NO_WORD
         }
-        Keyword::Error => 256,
+        Keyword::Error => NO_WORD,
     }
 }
 
-// The word behind the inputs: its number, or the one that stands for none, and the place behind it.
+// What stands behind the inputs: its number, or the one that stands for none, and the place behind it.
 pub struct Stated {
     pub number: usize,
     pub next: usize,
@@ -192,12 +196,12 @@ pub struct Stated {
 
 fn option(s: &[u8], at: usize, k: Keyword) -> Stated
     requires { ⌜ at ≤ length (now s) ⌝ }
-    ensures { λ r. ⌜ StatedIs (now (s .entry)) at k (r .number) (r .next) ⌝ }
+    ensures { λ r. ⌜ OptionIs (now (s .entry)) at k (r .number) (r .next) ⌝ }
 {
     let a = text::skip(s, at);
     let e = fields::word_end(s, a);
     let m = stated_by(k, &s[a..e]);
-    if m == 256 {
+    if m == NO_WORD {
         return Stated {
             number: absent(k),
             next: at,
@@ -214,6 +218,111 @@ fn absent(k: Keyword) -> usize
         Keyword::Constructor => 2,
         Keyword::Event => 0,
         Keyword::Error => 0,
+    }
+}
+
+// Whether a word is a visibility word.
+fn is_visibility(w: &[u8]) -> bool
+    ensures { λ r. ⌜ r ≡ isVisibility (now (w .entry)) ⌝ }
+{
+    if text::equal(b"external", w) {
+        return true;
+    }
+    text::equal(b"public", w)
+}
+
+// Whether a byte is the first of a visibility word or a mutability word.
+fn begins_modifier(c: u16) -> bool
+    ensures { λ r. ⌜ r ≡ beginsModifier c ⌝ }
+{
+    if c == b'e' as u16 {
+        return true;
+    }
+    if c == b'p' as u16 {
+        return true;
+    }
+    c == b'v' as u16
+}
+
+// `visibility`: the place behind the word, and `at` where none stands. Most other words are told by their first byte.
+fn visibility(s: &[u8], at: usize) -> usize
+    requires { ⌜ at ≤ length (now s) ⌝ }
+    ensures { λ r. ⌜ VisibleIs (now (s .entry)) at r ⌝ }
+{
+    let a = text::skip(s, at);
+    if begins_modifier(text::peek(s, a)) {
+        let e = fields::word_end(s, a);
+        if is_visibility(&s[a..e]) {
+            return e;
+        }
+        return at;
+    }
+    at
+}
+
+// A second word, behind a first one that ends at `at`: a mutability word behind a visibility word, and the other way round, where m is stated
+// so far. Of a visibility word nothing is kept.
+fn second(s: &[u8], at: usize, seen: bool, m: usize) -> Stated
+    requires { ⌜ at ≤ length (now s) ⌝ }
+    ensures { λ r. ⌜ SecondIs (now (s .entry)) at seen m (r .number) (r .next) ⌝ }
+{
+    if seen {
+        return option(s, at, Keyword::Function);
+    }
+    Stated {
+        number: m,
+        next: visibility(s, at),
+    }
+}
+
+// "2 none stated"
+const NOT_STATED: usize = 2;
+
+// `modifiers`, by the word that stands behind the blanks, at a.
+fn modifiers_from(s: &[u8], at: usize, a: usize) -> Stated
+    requires inside { ⌜ at ≤ length (now s) ⌝ }
+    requires place { ⌜ Skipped (now s) at a ⌝ }
+    ensures { λ r. ⌜ StatedIs (now (s .entry)) at Keyword.Function (r .number) (r .next) ⌝ }
+{
+    let e = fields::word_end(s, a);
+    let m = stated_by(Keyword::Function, &s[a..e]);
+    if m == NO_WORD {
+        if is_visibility(&s[a..e]) {
+            return second(s, e, true, NOT_STATED);
+        }
+        return Stated {
+            number: NOT_STATED,
+            next: at,
+        };
+    }
+    second(s, e, false, m)
+}
+
+// `modifiers`: where no such word stands, a look at one byte is enough.
+fn modifiers(s: &[u8], at: usize) -> Stated
+    requires { ⌜ at ≤ length (now s) ⌝ }
+    ensures { λ r. ⌜ StatedIs (now (s .entry)) at Keyword.Function (r .number) (r .next) ⌝ }
+{
+    let a = text::skip(s, at);
+    if begins_modifier(text::peek(s, a)) {
+        return modifiers_from(s, at, a);
+    }
+    Stated {
+        number: NOT_STATED,
+        next: at,
+    }
+}
+
+// What stands behind the inputs, before the outputs.
+fn words(s: &[u8], at: usize, k: Keyword) -> Stated
+    requires { ⌜ at ≤ length (now s) ⌝ }
+    ensures { λ r. ⌜ StatedIs (now (s .entry)) at k (r .number) (r .next) ⌝ }
+{
+    match k {
+        Keyword::Function => modifiers(s, at),
+        Keyword::Constructor => option(s, at, k),
+        Keyword::Event => option(s, at, k),
+        Keyword::Error => option(s, at, k),
     }
 }
 
@@ -284,7 +393,7 @@ fn tail(s: &[u8], at: usize, k: Keyword, out: &mut [u8], len: usize) -> Read
     requires { ⌜ Room 0 34 (now s) at len (now out) ⌝ }
     ensures { λ r. ⌜ TailIs (now (s .entry)) at k len (now (out .entry)) (now (out .exit)) r ⌝ }
 {
-    let m = option(s, at, k);
+    let m = words(s, at, k);
     let r = outputs(s, m.next, k, out, len);
     match r {
         Read::Got { next, len: l } => {

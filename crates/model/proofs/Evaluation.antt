@@ -6,7 +6,7 @@ use Rattle.model.specs.Text.{spanFrom, charOf, character, validLength, b
 use Rattle.model.specs.Tree.{arrays, kindOf, nameKinds}
 use Rattle.model.specs.KindText.{cutLast, strip, inside, peel, withNumber, fromStrIn, fromStr}
 use Rattle.model.specs.Parser.{onAns, then, look, takeChar, word, wordEnd, keywordOf, lookIdent, ident, keyword, option, optionalName, end}
-use Rattle.model.specs.Reading.{runKind, arraySuffix, suffixesIn, suffixes, fieldKind, marks, fieldBy, closing, rest, list, tupleKind, fields, returns, keywordText, function, constructor, event, error, exec, wanted, readDeclaration, admit, parse}
+use Rattle.model.specs.Reading.{runKind, arraySuffix, suffixesIn, suffixes, fieldKind, marks, fieldBy, closing, rest, list, tupleKind, fields, visibility, modifiers, returns, keywordText, function, constructor, event, error, exec, wanted, readDeclaration, admit, parse}
 use Rattle.model.specs.Layout.{littleEndian, leValue, recordOf, pieceOf}
 use Rattle.model.specs.Record.{encodeElementary, encodeSuffix, encodeSuffixes, encodeName, encodeField, encodeList, encode, isMark, isField, isDeclaration, wellFormed, wellFormedField, decodeElementary, decodeSuffix, baseFrom, eachIn, decodeSuffixes, fieldFrom, tupleFrom, decodeField, decodeFields, decodeDeclaration, decode, decodeLone}
 use Rattle.model.specs.Line.{keywordIn, canonicalText, signatureText, fieldText, nameOf, fieldName, line}
@@ -16,5 +16,5 @@ use Rattle.model.specs.Message.{wording, wholeFrom, wholeTo, context, es
 use Rattle.model.specs.Deposit.{depositBy, depositLine}
 
 unfoldable pub evaluation : Unit {0}
-unfolding digits decimal unsigned plain number elementaryText suffixText kindText canonical isElementary spanFrom charOf character validLength blank skip peek wordLength runLength arrays kindOf nameKinds cutLast strip inside peel withNumber fromStrIn fromStr onAns then look takeChar word wordEnd keywordOf lookIdent ident keyword option optionalName end runKind arraySuffix suffixesIn suffixes fieldKind marks fieldBy closing rest list tupleKind fields returns keywordText function constructor event error exec wanted readDeclaration admit parse littleEndian leValue recordOf pieceOf encodeElementary encodeSuffix encodeSuffixes encodeName encodeField encodeList encode isMark isField isDeclaration wellFormed wellFormedField decodeElementary decodeSuffix baseFrom eachIn decodeSuffixes fieldFrom tupleFrom decodeField decodeFields decodeDeclaration decode decodeLone keywordIn canonicalText signatureText fieldText nameOf fieldName line refusalNo said needed outcome after refusalNumber handed written readOutput readKind kindOutput canonicalOutput signatureOutput kindTextOutput nameOutput wording wholeFrom wholeTo context escaped messageText messageOutput depositBy depositLine
+unfolding digits decimal unsigned plain number elementaryText suffixText kindText canonical isElementary spanFrom charOf character validLength blank skip peek wordLength runLength arrays kindOf nameKinds cutLast strip inside peel withNumber fromStrIn fromStr onAns then look takeChar word wordEnd keywordOf lookIdent ident keyword option optionalName end runKind arraySuffix suffixesIn suffixes fieldKind marks fieldBy closing rest list tupleKind fields visibility modifiers returns keywordText function constructor event error exec wanted readDeclaration admit parse littleEndian leValue recordOf pieceOf encodeElementary encodeSuffix encodeSuffixes encodeName encodeField encodeList encode isMark isField isDeclaration wellFormed wellFormedField decodeElementary decodeSuffix baseFrom eachIn decodeSuffixes fieldFrom tupleFrom decodeField decodeFields decodeDeclaration decode decodeLone keywordIn canonicalText signatureText fieldText nameOf fieldName line refusalNo said needed outcome after refusalNumber handed written readOutput readKind kindOutput canonicalOutput signatureOutput kindTextOutput nameOutput wording wholeFrom wholeTo context escaped messageText messageOutput depositBy depositLine
 evaluation = tt

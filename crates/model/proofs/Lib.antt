@@ -17,6 +17,7 @@ pub mod Readback
 pub mod Spelling
 pub mod Loose
 pub mod Lengths
+pub mod Modifiers
 pub mod Lines
 pub mod Messages
 pub mod Demand

@@ -19,12 +19,13 @@ use Rattle.model.specs.Text.{skip}
 use Rattle.model.specs.Tree.{Base, elementary, tuple, Field, field, Fields, noField, moreFields, notStated, Declaration, arrays, baseKind, kindOf, kindsOf, nameKinds}
 use Rattle.model.specs.KindText.{Entry, entry, lookup}
 use Rattle.model.specs.Parser.{got, Parser, onAns, then, _>>=_, return, keywordOf, ident, keyword, option, atEnd, end}
-use Rattle.model.specs.Reading.{deepest, fields, mutabilities, returns, keywordText, function, event, error, exec, parserOf, wanted, readDeclaration, longestText, parse}
+use Rattle.model.specs.Reading.{deepest, fields, modifiers, returns, keywordText, function, event, error, exec, parserOf, wanted, readDeclaration, longestText, parse}
 use Rattle.model.specs.Record.{isSuffix, isBase, isField, areFields, isDeclaration, wellFormed}
 use Rattle.model.specs.Line.{keywordIn, line}
 use Rattle.model.specs.Written.{fits, allFit}
 use Rattle.model.proofs.Scans.{skip-none, blank-nil}
 use Rattle.model.proofs.Stands.{peek-first, admit-ascii, Reads, reads-then, reads-on, reads-return, reads-char, look-absent, name-spaced, reads-ident, reads-keyword, option-absent}
+use Rattle.model.proofs.Modifiers.{no-modifiers}
 use Rattle.model.proofs.KindBack.{word-ascii}
 use Rattle.model.proofs.Bounds.{In}
 use Rattle.model.proofs.Sound.{fields-are-kinds}
@@ -143,8 +144,8 @@ unfolding wanted line keywordText nameKinds keywordIn function
 function-line p f n =
     let e : Declaration = Declaration.function notStated (p .name) (fieldsOf (p .kinds)) noField in
     line-whole key.Function p f n e refl refl refl
-    (reads-line key.Function Parameter p (λ nm ins. option mutabilities notStated >>= λ m. returns >>= λ outs. return (Declaration.function m nm ins outs)) e f
-    (reads-on (option mutabilities notStated) _ [] [] notStated e (reads-option mutabilities notStated refl)
+    (reads-line key.Function Parameter p (λ nm ins. modifiers >>= λ m. returns >>= λ outs. return (Declaration.function m nm ins outs)) e f
+    (reads-on modifiers _ [] [] notStated e no-modifiers
     (reads-on returns _ [] [] noField e reads-returns (reads-return e []))))
 
 event-line : (p : Prototype) → Readable p → length (line key.Event p) ≤ longestText → LineReads key.Event p

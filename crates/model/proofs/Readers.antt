@@ -6,7 +6,7 @@ use mathlib.Core.List.{List, [], _∷_}
 use mathlib.Core.Option.{Option, none, some}
 use Prim.Native.Nat.{ℕ, zero, suc, _+_, _*_, _≤_, _<_}
 use native.Mathlib.Omega.{arith}
-use lib.Dec.{eqb, lit<}
+use lib.Dec.{leb, eqb, lit<}
 use lib.ListN.{length, take, drop, length-append, length-drop}
 use lib.Seq.{length-take-le}
 use borrow.Author.Tests.{eqb-true}
@@ -18,10 +18,10 @@ use Rattle.model.specs.declared.Refusal.the-variants.{ExpectOpen, Expect
 use Rattle.model.specs.declared.Sort.{Sort}
 use Rattle.model.specs.declared.Sort.the-variants.{Plain, Parameter}
 use Rattle.model.specs.Text.{spanFrom, span, one, skip, peek, wordLength, runByte, runLength, part}
-use Rattle.model.specs.Tree.{tuple, Field, field, Fields, noField, moreFields, unmarked}
+use Rattle.model.specs.Tree.{tuple, Field, field, Fields, noField, moreFields, unmarked, notStated}
 use Rattle.model.specs.KindText.{Result, ok, err, Entry, entry, lookup, Spelled, fromStr}
 use Rattle.model.specs.Parser.{Found, Ans, Parser, orElse, look, whyNot, takeChar, word, wordEnd, foundBy, keywordOf, isIdent, lookIdent, ident, keyword, option, optionalName, end}
-use Rattle.model.specs.Reading.{FieldKind, ofRun, runKind, ofDigits, closed, opened, arraySuffix, suffixesBy, suffixesIn, suffixes, fieldKind, marks, fieldBy, closing, follow, restBy, rest, list, tupleKind, deepest, fields, returnsBy, returns}
+use Rattle.model.specs.Reading.{FieldKind, ofRun, runKind, ofDigits, closed, opened, arraySuffix, suffixesBy, suffixesIn, suffixes, fieldKind, marks, fieldBy, closing, follow, restBy, rest, list, tupleKind, deepest, fields, mutabilities, visibilities, visibility, visibilityUnless, modifiers, returnsBy, returns}
 use Rattle.model.specs.Record.{encodeSuffix, encodeSuffixes, encodeBase, encodeField, encodeFields, isFieldName, isSuffix, hasMark, isMark, isBase, isField, areFields, areInputs}
 use Rattle.model.proofs.Scans.{span-le, peek-inside, skip-le, skip-within}
 use Rattle.model.proofs.Holds.{Of, reads, refuses, opens, Seen, sees, misses, Finds, Read, Any, OneChar, then-of, on-of, as-of, require-of, or-of, read, gives, finds}
@@ -259,6 +259,22 @@ module _ (s : List ℕ) where
       then-of (take-char-of s lparen at ExpectOpen (lit< tt) h) (λ _ n q.
       as-of (list-of s sort deepest (fieldBy sort (tupleKind deepest)) (λ b. field-of s sort (tupleKind deepest) deepest b (tuple-kind-of deepest)) n (q .within))
       (λ fs m r. read (r .holds) (omega arith) (r .within)))
+
+  -- visibility words take bytes and leave nothing
+  visibility-of : (at : ℕ) → at ≤ length s → Of s (Read s Any (λ _. 0) at) (visibility s at)
+  unfolding visibility
+  visibility-of at h = option-of s (λ _. Unit {0}) visibilities false at h (tt, (tt, tt)) tt
+
+  visibility-unless : (v : Bool) (at : ℕ) → at ≤ length s → Of s (Read s Any (λ _. 0) at) (visibilityUnless v s at)
+  visibility-unless true at h = gives tt (omega arith) h
+  visibility-unless false at h = visibility-of at h
+
+  pub modifiers-of : (at : ℕ) → at ≤ length s → Of s (Read s (λ m _. leb m 3 ≡ true) (λ _. 0) at) (modifiers s at)
+  unfolding modifiers
+  modifiers-of at h =
+      then-of (visibility-of at h) (λ v n₁ q₁.
+      then-of (option-of s (λ m. leb m 3 ≡ true) mutabilities notStated n₁ (q₁ .within) (refl, (refl, (refl, tt))) refl) (λ m n₂ q₂.
+      then-of (visibility-unless v n₂ (q₂ .within)) (λ _ n₃ q₃. gives (q₂ .holds) (omega arith) (q₃ .within))))
 
   pub returns-of : (at : ℕ) → at ≤ length s → Of s (Read s (λ fs _. areInputs Parameter fs ≡ true) (λ fs. length (encodeFields 4 fs)) at) (returns s at)
   unfolding returns encodeFields areFields

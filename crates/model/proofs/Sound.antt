@@ -22,7 +22,7 @@ use Rattle.model.specs.Text.{peek, validLength}
 use Rattle.model.specs.Tree.{Base, elementary, tuple, Field, field, Fields, noField, moreFields, isPayable, notStated, Declaration, arrays, baseKind, kindOf, kindsOf, nameKinds}
 use Rattle.model.specs.KindText.{Result, ok, err, entry, Spelled, fromStr}
 use Rattle.model.specs.Parser.{Ans, got, bad, deep, word}
-use Rattle.model.specs.Reading.{mutabilities, deepest, keywordText, function, constructor, event, error, exec, parserOf, wanted, readBy, readDeclaration, longestText, keywords, openingOf, admit, parse, marks}
+use Rattle.model.specs.Reading.{deepest, keywordText, function, constructor, event, error, exec, parserOf, wanted, readBy, readDeclaration, longestText, keywords, openingOf, admit, parse, marks}
 use Rattle.model.specs.Layout.{littleEndian}
 use Rattle.model.specs.Record.{encode, encodeName, encodeList, encodeField, isMark, encodeBase, isBase, isField, areFields, isDeclaration, longestRecord, wellFormed, wellFormedField}
 use Rattle.model.specs.Line.{keywordIn}
@@ -31,7 +31,7 @@ use Rattle.model.specs.Calls.{written, readOutput, loneField, readKind, 
 use Rattle.model.proofs.Scans.{span-le}
 use Rattle.model.proofs.Bounds.{tested, In, Right, Spells, spelled, record-size, field-size}
 use Rattle.model.proofs.Holds.{Of, reads, is-got, is-bad, is-deep, refuses as refuses-at, opens, Read, then-of, on-of, as-of, read, gives}
-use Rattle.model.proofs.Readers.{keyword-of, ident-of, option-of, end-of, fields-of, returns-of}
+use Rattle.model.proofs.Readers.{keyword-of, ident-of, option-of, end-of, fields-of, modifiers-of, returns-of}
 
 -- a declaration read from `at` on, behind its keyword
 pub record Declares (s : List ℕ) (at : ℕ) (k : Keyword) (d : Declaration) : Type 0 where
@@ -49,7 +49,7 @@ module _ (s : List ℕ) where
       then-of (keyword-of s (keywordText key.Function) at h) (λ _ n₀ q₀.
       then-of (ident-of s n₀ (q₀ .within)) (λ nm n₁ q₁.
       then-of (fields-of s Parameter n₁ (q₁ .within)) (λ ins n₂ q₂.
-      then-of (option-of s (λ m. leb m 3 ≡ true) mutabilities notStated n₂ (q₂ .within) (refl, (refl, (refl, tt))) refl) (λ m n₃ q₃.
+      then-of (modifiers-of s n₂ (q₂ .within)) (λ m n₃ q₃.
       then-of (returns-of s n₃ (q₃ .within)) (λ outs n₄ q₄.
       gives (record { opening = q₀ .holds; sort = refl; valid = both (q₃ .holds) (both (q₁ .holds) (both (q₂ .holds) (q₄ .holds))) })
       (simp (record-size, length-append) (omega arith)) (q₄ .within))))))

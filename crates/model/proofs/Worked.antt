@@ -117,3 +117,28 @@ message-context = refl
 deposited : (depositLine (ascii "function f(uint a)") ≡ ascii "ok function 50 f(uint256)") × (depositLine (ascii "constructor()") ≡ ascii "ok constructor 14 -") × (depositLine (ascii "function f(uin)") ≡ ascii "no 3 11")
 unfolding evaluation
 deposited = (refl, refl, refl)
+
+-- Order 2: a text with a visibility word where it may stand is read as the text with spaces in its place
+abbrev ReadAs : String → String → Type 0
+ReadAs t u = parse call.General (ascii t) ≡ parse call.General (ascii u)
+
+visibility-unread : ReadAs "function f() external" "function f()         " × ReadAs "function f()public" "function f()      " × ReadAs "function f() public view returns (bool);" "function f()        view returns (bool);" × ReadAs "function f() view public returns (bool);" "function f() view        returns (bool);" × ReadAs "function public(uint public) public" "function public(uint public)       "
+unfolding evaluation
+visibility-unread = (refl, refl, refl, refl, refl)
+
+-- with the mutability that is stated
+mutability-read : (parse call.General (ascii "function f() external") ≡ got (Declaration.function 2 (ascii "f") noField noField) 21) × (parse call.General (ascii "function f() pure external") ≡ got (Declaration.function 0 (ascii "f") noField noField) 26) × (parse call.General (ascii "function f() external payable;") ≡ got (Declaration.function 3 (ascii "f") noField noField) 30)
+unfolding evaluation
+mutability-read = (refl, refl, refl)
+
+-- "A second word of either sort is refused with 7 at that word.": so is one behind a `returns` list, and one that is no word of either sort
+abbrev Refused7 : String → ℕ → Type 0
+Refused7 t p = outcome 1000 (readOutput call.General (ascii t)) ≡ refused 7 p
+
+second-words : Refused7 "function f() external  public" 23 × Refused7 "function f() pure external view" 27 × Refused7 "function f() external pure public" 27 × Refused7 "function f() pure pure external" 18
+unfolding evaluation
+second-words = (refl, refl, refl, refl)
+
+other-places : Refused7 "function f() external returns (uint) public" 37 × Refused7 "function f() external;external" 22 × Refused7 "function f() internal" 13 × Refused7 "function f() externalpure" 13 × Refused7 "constructor() public" 14 × Refused7 "event e() external" 10 × Refused7 "error e() public" 10
+unfolding evaluation
+other-places = (refl, refl, refl, refl, refl, refl, refl)

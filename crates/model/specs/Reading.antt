@@ -161,6 +161,29 @@ fields sort = do
 abbrev pub mutabilities : List (Entry ℕ)
 mutabilities = entry (ascii "pure") isPure ∷ entry (ascii "view") isView ∷ entry (ascii "payable") isPayable ∷ []
 
+-- Order 2: "the Solidity grammar allows `external` and `public`". "Neither visibility word is stored.": all that is known of one is that it stands there
+abbrev pub visibilities : List (Entry Bool)
+visibilities = entry (ascii "external") true ∷ entry (ascii "public") true ∷ []
+
+-- whether a visibility word stands there
+unfoldable pub visibility : Parser Bool
+visibility = option visibilities false
+
+-- one that may stand there unless one stood before
+abbrev pub visibilityUnless : Bool → Parser Bool
+visibilityUnless true = return true
+visibilityUnless false = visibility
+
+-- Order 2: "After a function's inputs, at most one of these and at most one mutability word may stand, in either order.": a visibility word if there
+-- is one, a mutability word if there is one, and where there was no visibility word, one again. A second word of either sort is left to `end`: it
+-- "is refused with 7 at that word"
+unfoldable pub modifiers : Parser ℕ
+modifiers = do
+  v ← visibility
+  m ← option mutabilities notStated
+  visibilityUnless v
+  return m
+
 abbrev pub returnsBy : ℕ → Found (Unit {0}) → List ℕ → Ans Fields
 returnsBy at missing s = got noField at
 returnsBy at (found _ n) s = fields Parameter s n
@@ -182,7 +205,7 @@ function = do
   keyword (keywordText key.Function)
   nm ← ident
   ins ← fields Parameter
-  m ← option mutabilities notStated
+  m ← modifiers
   outs ← returns
   return (Declaration.function m nm ins outs)
 

@@ -3,8 +3,8 @@ use borrow.Author.Needs.{needs}
 use Rattle.declaration.proofs.tail.Statement.{statement}
 use Rattle.declaration.proofs.tail.Tie as tie
 
-option-requires : tie.Need-option-requires
-option-requires c κs = search needs
+words-requires : tie.Need-words-requires
+words-requires c κs = search needs
 
 outputs-requires : tie.Need-outputs-requires
 outputs-requires c κs = search needs
@@ -73,7 +73,7 @@ pub tail-spec : {M : Type 1} → statement M
 tail-spec =
     tie.close
     (tie.spec
-    option-requires
+    words-requires
     outputs-requires
     enum-known-r
     end-requires
