@@ -1,0 +1,109 @@
+#!/usr/bin/env python3
+"""Makes the rows of the program `orders` (crates/orders/stdin) and what it has to print (stdout).
+
+Usage: tests/oracle/tables.py [--check]     ORACLE names the program that build.sh builds
+A row is a call, the room that it is lent and an input. Numbers, positions and lines are written here as document 02's
+tables have them. A record is the Rust's, of a text that document 02 says to be read the same: its bytes come from the
+oracle. With --check the files are compared instead of written; the exit status is then 1 if they differ.
+"""
+import os
+import pathlib
+import subprocess
+import sys
+
+HERE = pathlib.Path(__file__).resolve().parent
+CRATE = HERE.parent.parent / "crates" / "orders"
+AMPLE = "-"
+IDEOGRAPHIC_SPACE = "\u3000"
+
+
+def no(number, position):
+    """A refusal."""
+    return f"no {number} {position}"
+
+
+def line(text):
+    """A text that is written."""
+    return f"ok {len(text)} {text}"
+
+
+class As:
+    """The record that the Rust writes of a text."""
+
+    def __init__(self, text, call="general"):
+        self.asked = f"{call} {text.encode().hex()}"
+
+
+# Order 2: visibility words.
+
+def visibility():
+    f = "function f()"
+    for text, same in (
+        (f + " external", f),
+        (f + "public", f),
+        (f + " pure external", f + " pure"),
+        (f + " external payable;", f + " payable"),
+        (f + " external view returns (uint)", f + " view returns (uint)"),
+        ("function external() external", "function external()"),
+        ("function public(uint public) public", "function public(uint public)"),
+    ):
+        yield "general", AMPLE, text, As(same)
+    for words, position in (
+        ("external external", 22), ("external  public", 23), ("public public", 20),
+        ("pure external view", 27), ("external pure public", 27), ("pure pure external", 18),
+        ("returns (uint) external", 28), ("external returns (uint) public", 37), ("external;external", 22),
+        ("internal", 13), ("public1", 13), ("externalpure", 13),
+    ):
+        yield "general", AMPLE, f"{f} {words}", no(7, position)
+    yield "general", AMPLE, "constructor() public", no(7, 14)
+    yield "general", AMPLE, "event e() external", no(7, 10)
+    yield "error", AMPLE, "error e() public", no(7, 10)
+    yield "general", AMPLE, f + " external returns", no(1, 29)
+    yield "general", AMPLE, f + " external returns (uin)", no(3, 31)
+    for word in ("external", "public"):
+        for text in (f"{f} {word};", f"{f}{word}", f"{f}   {word}", f"{f}{IDEOGRAPHIC_SPACE}{word}"):
+            yield "function", AMPLE, text, As(f)
+        yield "function", AMPLE, f"{f} {word} view", As(f + " view")
+        yield "function", AMPLE, f"{f} view {word}", As(f + " view")
+        yield "signature", AMPLE, f"{f} {word} returns (bool)", line("f():(bool)")
+    yield "message", AMPLE, f + " external external", line('expected end of declaration at position 22("... external |external")')
+
+
+TABLES = (visibility,)
+
+
+def escaped(text):
+    """Printable ASCII as it is but for the backslash, any other byte as a backslash and two hex digits."""
+    return "".join(chr(b) if 32 <= b < 127 and b != 92 else f"\\{b:02x}" for b in text.encode())
+
+
+def answers(rows):
+    """What is to be printed behind each row; one run of the oracle answers for all records."""
+    asked = [said.asked for *_, said in rows if isinstance(said, As)]
+    done = subprocess.run([os.environ["ORACLE"]], input="".join(a + "\n" for a in asked), capture_output=True, text=True, check=True)
+    replies = iter(done.stdout.splitlines())
+    for *_, said in rows:
+        if not isinstance(said, As):
+            yield said
+            continue
+        outcome, record, *_ = next(replies).split(" ")
+        if outcome != "ok":
+            sys.exit(f"the Rust refuses what is said to be read: {said.asked}")
+        yield f"ok {len(record) // 2} {record}"
+
+
+def main():
+    rows = [row for table in TABLES for row in table()]
+    given = [f"{call} {room} {escaped(text)}\n" for call, room, text, _ in rows]
+    printed = [f"{row[:-1]} -> {answer}\n" for row, answer in zip(given, answers(rows))]
+    made = {"stdin": "".join(given), "stdout": "".join(printed)}
+    if sys.argv[1:] == ["--check"]:
+        differing = [name for name, text in made.items() if (CRATE / name).read_text() != text]
+        sys.exit(f"differ: {' '.join(differing)}" if differing else 0)
+    for name, text in made.items():
+        (CRATE / name).write_text(text)
+    print(f"{len(rows)} rows")
+
+
+if __name__ == "__main__":
+    main()
