@@ -176,10 +176,14 @@ fn number(rest: &mut &[u8]) -> Option<u16> {
     Some(n)
 }
 
+/// Whether a word may go on with a byte.
+pub fn lettered(byte: &u8) -> bool {
+    byte.is_ascii_alphanumeric() || matches!(byte, b'$' | b'_')
+}
+
 /// A name, perhaps empty.
 fn word<'a>(rest: &mut &'a [u8]) -> Option<&'a [u8]> {
     let (kind, name) = next(rest)?;
-    let lettered = |b: &u8| b.is_ascii_alphanumeric() || matches!(b, b'$' | b'_');
     let digit_first = name.first().is_some_and(u8::is_ascii_digit);
     (kind == NAME && name.iter().all(lettered) && !digit_first).then_some(name)
 }

@@ -6,11 +6,13 @@ mod marks;
 mod original;
 mod random;
 mod records;
+mod rows;
 mod texts;
 
 use calls::{ask, Answer, Call, MESSAGES, READERS, WRITERS};
 use original::{Said, Texts, KIND};
 use random::Random;
+use rows::Due;
 use std::collections::BTreeMap;
 
 /// The differences that docs/DIFFERENCES.md lists and a text can show.
@@ -21,6 +23,7 @@ enum Rule {
     TooDeep,
     KindTuple,
     Place,
+    Visibility,
     Panic,
     Escape,
 }
@@ -33,6 +36,7 @@ impl Rule {
             Rule::TooDeep => "33rd open tuple: 10 at its bracket",
             Rule::KindTuple => "kind text starts with a bracket: 14",
             Rule::Place => "place word: mark 2 or 3, which the Rust forgets",
+            Rule::Visibility => "visibility word, which the Rust refuses: as with spaces for it",
             Rule::Panic => "context cuts a character, the Rust panics: error as elsewhere",
             Rule::Escape => "message copies what the Rust escapes",
         }
@@ -135,39 +139,56 @@ impl Compare {
     /// Everything about one text. The last record that was read is left in `record`.
     fn text(&mut self, bytes: &[u8], record: &mut Vec<u8>) {
         let text = std::str::from_utf8(bytes).map_err(|e| e.valid_up_to());
-        for (place, call) in READERS.iter().enumerate() {
-            let refused = match text {
-                _ if bytes.len() > 4096 => Some((Rule::TooLong, 8, 0)),
-                Err(valid) => Some((Rule::NotUtf8, 9, valid)),
-                Ok(text) if place == KIND => text.starts_with('(').then_some((Rule::KindTuple, 14, 0)),
-                Ok(text) => original::too_deep(place, text).map(|at| (Rule::TooDeep, 10, at)),
-            };
-            if let Some((rule, number, position)) = refused {
-                self.listed(rule);
-                self.check(call, bytes, &Wanted::Refusal(number, position));
-                self.message(place, bytes, "");
-                continue;
+        for place in 0..READERS.len() {
+            match text {
+                _ if bytes.len() > 4096 => self.refused(place, bytes, Rule::TooLong, (8, 0)),
+                Err(valid) => self.refused(place, bytes, Rule::NotUtf8, (9, valid)),
+                Ok(text) => self.reading(place, text, record),
             }
-            let text = text.unwrap();
-            match original::read(place, text) {
-                Said::Read { record: read, texts } => {
-                    let Some(read) = self.kept(call, text, read) else { continue };
-                    self.check(call, bytes, &Wanted::Output(&read));
-                    self.message(place, bytes, "");
-                    self.texts(&read, &texts, place == KIND);
-                    *record = read;
-                }
-                Said::Refused { number, position, message } => {
-                    self.check(call, bytes, &Wanted::Refusal(number, position));
-                    if place != KIND {
-                        self.copied(place, text, number, position, &message);
-                    }
-                }
-                Said::Panicked { number, position } => {
-                    self.listed(Rule::Panic);
-                    self.check(call, bytes, &Wanted::Refusal(number, position));
+        }
+    }
+
+    /// A refusal without a message, which the Rust does not give.
+    fn refused(&mut self, place: usize, text: &[u8], rule: Rule, (number, position): Answer) {
+        self.listed(rule);
+        self.check(&READERS[place], text, &Wanted::Refusal(number, position));
+        self.message(place, text, "");
+    }
+
+    /// One reading call and its message call, by the Rust's answer to the text or, if a visibility word
+    /// stands where it may, to the text with spaces for that word.
+    fn reading(&mut self, place: usize, text: &str, record: &mut Vec<u8>) {
+        let (call, bytes) = (&READERS[place], text.as_bytes());
+        if place == KIND && text.starts_with('(') {
+            return self.refused(place, bytes, Rule::KindTuple, (14, 0));
+        }
+        let spaced = original::spaced(place, text);
+        if spaced.is_some() {
+            self.listed(Rule::Visibility);
+        }
+        let known = spaced.as_deref().unwrap_or(text);
+        if let Some(position) = original::too_deep(place, known) {
+            return self.refused(place, bytes, Rule::TooDeep, (10, position));
+        }
+        match original::read(place, known) {
+            Said::Read { record: read, texts } => {
+                let Some(read) = self.kept(call, text, read) else { return };
+                self.check(call, bytes, &Wanted::Output(&read));
+                self.message(place, bytes, "");
+                self.texts(&read, &texts, place == KIND);
+                *record = read;
+            }
+            Said::Refused { number, position, message } => {
+                self.check(call, bytes, &Wanted::Refusal(number, position));
+                if place != KIND {
+                    self.copied(place, known, number, position, &message);
                     self.message(place, bytes, &document::message(place, text, number, position));
                 }
+            }
+            Said::Panicked { number, position } => {
+                self.listed(Rule::Panic);
+                self.check(call, bytes, &Wanted::Refusal(number, position));
+                self.message(place, bytes, &document::message(place, text, number, position));
             }
         }
     }
@@ -181,7 +202,7 @@ impl Compare {
             return Some(read);
         }
         self.listed(Rule::Place);
-        let written = self.written(call, text.as_bytes(), read.len());
+        let (_, written) = self.written(call, text.as_bytes(), read.len());
         let fields = marks::of_record(&written).unwrap_or_default();
         let stand: Vec<u16> = fields.iter().map(|(mark, _)| *mark).collect();
         if stand == words && marks::forgotten(&written).as_ref() == Some(&read) {
@@ -193,18 +214,26 @@ impl Compare {
         None
     }
 
-    /// What a call leaves in a lent buffer of that length.
-    fn written(&mut self, call: &Call, input: &[u8], room: usize) -> Vec<u8> {
+    /// What a call answers and leaves in a lent buffer of that length.
+    fn written(&mut self, call: &Call, input: &[u8], room: usize) -> (Answer, Vec<u8>) {
         self.asked += 1;
         let mut lent = vec![FILL; room];
-        ask(call, input, &mut lent);
-        lent
+        (ask(call, input, &mut lent), lent)
+    }
+
+    /// A text whose answer is written down.
+    fn row(&mut self, call: &Call, text: &str, due: &Due) {
+        let (answer, written) = self.written(call, text.as_bytes(), LONGEST);
+        if !due.is_met(answer, &written) {
+            let what = || format!("answer {answer:?}, not what is written down for {text:?}");
+            self.differ(call.name, text.as_bytes(), what);
+        }
     }
 
     /// A text whose own lists have only fields with this mark and this name.
     fn located(&mut self, text: &str, mark: u16, name: &str) {
         let call = &READERS[original::GENERAL];
-        let written = self.written(call, text.as_bytes(), LONGEST);
+        let (_, written) = self.written(call, text.as_bytes(), LONGEST);
         let fields = marks::of_record(&written).unwrap_or_default();
         if fields.is_empty() || fields.iter().any(|field| *field != (mark, name.as_bytes())) {
             let what = || format!("marks and names {fields:?} instead of {mark} and {name}");
@@ -212,7 +241,7 @@ impl Compare {
         }
     }
 
-    /// The message call, by the Rust's message and by document 01's wording.
+    /// The Rust's message beside document 01's wording.
     fn copied(&mut self, place: usize, text: &str, number: u32, position: usize, message: &str) {
         let copied = document::copied(message);
         if copied != message {
@@ -223,7 +252,6 @@ impl Compare {
             let what = || format!("the Rust {message}, document 01 {worded}");
             self.differ("message", text.as_bytes(), what);
         }
-        self.message(place, text.as_bytes(), &copied);
     }
 
     fn message(&mut self, place: usize, text: &[u8], message: &str) {
@@ -312,6 +340,9 @@ fn run(count: usize, seed: u64) -> bool {
     }
     records::marked(|record| compare.record(record));
     texts::located(&mut |text, mark, name| compare.located(text, mark, name));
+    for (text, due) in &rows::VISIBILITY {
+        compare.row(&READERS[original::GENERAL], text, due);
+    }
     texts::each(count, seed, |text| {
         texts += 1;
         compare.text(text, &mut read);

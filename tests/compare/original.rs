@@ -1,5 +1,6 @@
 //! What the Rust original answers: `plain` is the original, `marked` the copy that cannot
 //! panic and notes where the 33rd tuple is opened.
+use crate::document::lettered;
 use plain::abi::declaration::ParseError;
 use plain::abi::{
     ConstructorDescriptor, Descriptor, ErrorDescriptor, EventDescriptor, Field,
@@ -206,6 +207,31 @@ fn read_kind(text: &str) -> Said {
         Err(_) => 13,
     };
     Said::Refused { number, position: 0, message: String::new() }
+}
+
+/// Order 2's words, which the original does not know.
+pub const VISIBILITY: [&str; 2] = ["external", "public"];
+
+/// The refusal of what stands where the declaration should end.
+const EXPECT_END: u32 = 7;
+
+/// Whether a text begins with a word, and not with a longer one.
+fn begins(text: &str, word: &str) -> bool {
+    text.strip_prefix(word).is_some_and(|rest| !rest.as_bytes().first().is_some_and(lettered))
+}
+
+/// The text with its first visibility word as many spaces, if one stands where it may: the original
+/// wants the end of the declaration there, and reads what is before it with ` returns ()` behind.
+pub fn spaced(call: usize, text: &str) -> Option<String> {
+    if call == KIND || !VISIBILITY.iter().any(|word| text.contains(word)) {
+        return None;
+    }
+    let error = parse!(marked, call, text).err()?;
+    let (number, position) = refusal(&format!("{error:?}"));
+    let (before, behind) = text.split_at(position);
+    let word = VISIBILITY.iter().find(|word| number == EXPECT_END && begins(behind, word))?;
+    parse!(marked, call, &format!("{before} returns ()")).ok()?;
+    Some([before, &" ".repeat(word.len()), &behind[word.len()..]].concat())
 }
 
 /// Where the original opens a 33rd tuple, if it does.

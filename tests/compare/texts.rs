@@ -1,6 +1,8 @@
 //! The texts that are compared, made anew in each run: with one count and seed always the same.
 use crate::marks::{LOCATIONS, UNMARKED};
+use crate::original::VISIBILITY;
 use crate::random::Random;
+use crate::rows;
 
 const HEADS: [&str; 4] = ["function f", "constructor", "event e", "error e"];
 
@@ -32,6 +34,7 @@ pub fn each(count: usize, seed: u64, mut take: impl FnMut(&[u8])) {
     nesting(&mut counted);
     long(&mut counted);
     located(&mut |text, _, _| counted(text.as_bytes()));
+    visible(&mut counted);
     let left = count.saturating_sub(made);
     short(left / 3, &mut take);
     let mut maker = Maker { random: Random::new(seed), out: vec![], loose: false, deep: 0 };
@@ -106,6 +109,8 @@ fn nesting(take: &mut impl FnMut(&[u8])) {
                         take(format!("{head}(int a,{tuple}").as_bytes());
                         take(format!("{head}(x,{tuple})").as_bytes());
                         take(format!("{head}()returns({tuple},{tuple})").as_bytes());
+                        take(format!("{head}({tuple})external").as_bytes());
+                        take(format!("{head}()public returns({tuple})").as_bytes());
                         take(format!("{head}({}{tuple})", "(),".repeat(40)).as_bytes());
                     }
                 }
@@ -127,6 +132,7 @@ fn long(take: &mut impl FnMut(&[u8])) {
         ("event e(", "bool indexed a,", "()indexed)"), ("error e(", &deep, "int)"),
         ("error e(", &deep, "x)"), ("function f(", "(", ")"), ("function f()", "é", ""), ("", "(", ""),
         ("function f(", "() memory a,", "()[])returns(int)"), ("function f(uint", "[2]", " memory a)"),
+        ("function f()external", " ", "returns()"), ("function f()pure", "\u{3000}", "public public"),
     ];
     for (before, pad, behind) in shapes {
         for size in (4085..=4100).chain([1000, 1024, 1025, 65_536]) {
@@ -165,10 +171,37 @@ pub fn located(take: &mut impl FnMut(&str, u16, &str)) {
     }
 }
 
+/// Visibility words, once and twice, wherever they may stand and where they may not.
+fn visible(take: &mut impl FnMut(&[u8])) {
+    rows::VISIBILITY.iter().for_each(|(text, _)| take(text.as_bytes()));
+    let places = [
+        "~function f()", "function~f()", "function~()", "function f~()", "function f(~)",
+        "function f(int~)", "function f(int~a)", "function f(int a~)", "function f((int~)~)",
+        "function f(string~memory a)", "function f(uin)~", "function f~", "function f()~",
+        "function f()~pure", "function f()view~",
+        "function f()payable~returns(int)", "function f()~returns(int)", "function f()returns~(int)",
+        "function f()~view~returns(bytes memory)", "function f()returns(~)", "function f()returns(int)~",
+        "function f()pure~pure", "function f();~", "function f()~;", "function f()~returns(",
+        "function f()~returns(uin)", "constructor~()", "constructor(~)", "constructor()~",
+        "constructor()~payable", "constructor()payable~", "event~()", "event e(int~)",
+        "event e(int indexed~)", "event e()~", "event e()~anonymous", "event e()anonymous~", "error~()",
+        "error e(int~)", "error e()~", "~", "uint~", "(uint)~",
+    ];
+    let mut put = |place: &str, words: &str| take(place.replace('~', words).as_bytes());
+    for (place, word) in places.iter().flat_map(|place| VISIBILITY.map(|word| (place, word))) {
+        for before in ["", " ", "   ", "\u{3000}"] {
+            for between in ["", " ", "\u{3000}", ";", " pure ", "1", "é"] {
+                put(place, &format!("{before}{word}{between}"));
+                VISIBILITY.iter().for_each(|other| put(place, &format!("{before}{word}{between}{other} ")));
+            }
+        }
+    }
+}
+
 // --- exhaustive short texts ---------------------------------------------------------------
 
 /// Where strings of tokens are put: what stands before them, behind them, and the tokens.
-const PLACES: [(&str, &str, &[&str]); 9] = [
+const PLACES: [(&str, &str, &[&str]); 10] = [
     ("", "", &["int", "uint", "bytes", "8", "3", "[", "]", "+", "0"]),
     ("", "", &["function", "constructor", "event", "error", " ", "f", "()", ";"]),
     ("function f", "", &["(", ")", ",", "int", " ", "a", "é"]),
@@ -178,6 +211,7 @@ const PLACES: [(&str, &str, &[&str]); 9] = [
     ("event e(", ")", &["int", "indexed", "()", " ", ",", "a"]),
     ("error e((int)", ")", &["[", "]", "2", " ", "+", ",", "a"]),
     ("function f()", "", &["pure", "payable", "returns", "()", " ", ";", "x"]),
+    ("function f()", "", &["external", "public", "view", "returns", "()", " ", ";"]),
 ];
 
 /// The shortest strings of tokens, all of one length before the next.
@@ -200,9 +234,10 @@ fn short(count: usize, take: &mut impl FnMut(&[u8])) {
 // --- texts by the grammar -----------------------------------------------------------------
 
 const WORDS: [&str; 7] = ["int", "uint", "address", "bool", "function", "bytes", "string"];
-const NAMES: [&str; 16] = [
+const NAMES: [&str; 18] = [
     "a", "b1", "_", "$x", "to", "amount", "memory", "calldata", "indexed", "returns", "uint",
-    "function", "pure", "transferFrom", "Transfer", "A_long_Name_of_32_bytes_and_more_$0123",
+    "function", "pure", "external", "public", "transferFrom", "Transfer",
+    "A_long_Name_of_32_bytes_and_more_$0123",
 ];
 
 struct Maker {
@@ -356,6 +391,31 @@ impl Maker {
         }
     }
 
+    /// Words behind a function's inputs: mostly at most one of each sort, in either order.
+    fn modifiers(&mut self) {
+        let sorts: [&[&str]; 2] = [&["pure", "view", "payable"], &VISIBILITY];
+        let mut sort = self.random.below(sorts.len());
+        for _ in 0..*self.random.of(&[&0, &0, &0, &1, &1, &1, &2, &2, &2, &2, &3]) {
+            // Behind the bracket no blank is needed.
+            if !self.random.once_in(10) {
+                self.blank();
+            }
+            let word = self.random.of(sorts[sort]);
+            self.put(word);
+            if !self.random.once_in(5) {
+                sort = sorts.len() - 1 - sort;
+            }
+        }
+    }
+
+    /// A visibility word anywhere.
+    fn stray(&mut self) {
+        let word = self.random.of(&VISIBILITY);
+        let word = [self.random.of(&["", " "]), word, self.random.of(&["", " "])].concat();
+        let at = self.random.below(self.out.len() + 1);
+        self.out.splice(at..at, word.bytes());
+    }
+
     fn declaration(&mut self) {
         if self.loose && self.random.once_in(4) {
             self.gap();
@@ -375,7 +435,7 @@ impl Maker {
         });
         match keyword {
             "function" => {
-                self.word(&["pure", "view", "payable"]);
+                self.modifiers();
                 if self.random.once_in(2) {
                     self.blank();
                     self.put("returns");
@@ -386,6 +446,9 @@ impl Maker {
             "constructor" => self.word(&["payable"]),
             "event" => self.word(&["anonymous"]),
             _ => (),
+        }
+        if self.random.once_in(16) {
+            self.word(&VISIBILITY);
         }
         self.gap();
         if self.random.once_in(4) {
@@ -407,6 +470,9 @@ impl Maker {
             self.elementary();
         } else {
             self.declaration();
+        }
+        if self.random.once_in(32) {
+            self.stray();
         }
     }
 }
