@@ -146,7 +146,7 @@ fn long(size: usize) -> Vec<u8> {
 fn refused(ordinary: &[Vec<u8>]) -> Vec<Vec<u8>> {
     let broken = |text: &String| {
         [
-            text.replacen(") ", ") external ", 1),
+            text.replacen(") ", ") internal ", 1),
             text.replacen("address", "adress", 1),
             text.replacen("uint256", "uint255", 1),
             text.replacen(')', "", 1),

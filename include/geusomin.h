@@ -121,6 +121,8 @@ static inline const char *geusomin_refusal_text(uint32_t number)
  *   mutability  of a function: 0 pure, 1 view, 2 none stated, 3 payable; of a constructor: 2 or 3
  *   anonymous   of an event: 1 where `anonymous` stands behind its list; else 0
  *
+ * A function's visibility word, `external` or `public`, is not kept: the record is that of the text without it.
+ *
  * A field record may be taken out of its list and handed to the calls that take a field. One with mark 1, 2 or 3 is not
  * well formed by itself: a mark other than 0 stands in a declaration's own lists only. With its mark, bytes 6 and 7, set
  * to 0 it is.

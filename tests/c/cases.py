@@ -2,8 +2,9 @@
 
 The Rust's list says what is read of a text, and canonical text and signature of what was read; a name and the kinds of its
 fields stand in the canonical text and the signature. The Rust forgets place words, so its records say nothing of them; the
-marks that stand for them are order 1's. What of records is wrong, and with which refusal, is document 01's and order 1's;
-the limits of texts are document 01's.
+marks that stand for them are order 1's. The Rust reads no visibility words: a text with one is read as the text without it,
+and refused where order 2 says. What of records is wrong, and with which refusal, is document 01's and order 1's; the limits
+of texts are document 01's.
 """
 import itertools
 import re
@@ -14,6 +15,8 @@ FIELD, NAME, LIST, FUNCTION, CONSTRUCTOR, EVENT, ERROR = 0x10, 0x11, 0x12, 0x20,
 KEYWORDS = {FUNCTION: "function", CONSTRUCTOR: "constructor", EVENT: "event", ERROR: "error"}
 UNMARKED, INDEXED, CALLDATA, MEMORY = range(4)
 LOCATIONS = {CALLDATA: b"calldata", MEMORY: b"memory"}
+VISIBILITIES = ("external", "public")
+MOST_BYTES = 4096
 RECORD_CALLS = ("canonical", "signature", "kind_text", "name")
 
 
@@ -209,6 +212,8 @@ def of_row(row):
         yield from of_field(r, canonical)
     else:
         yield from of_declaration(r, canonical, signature)
+    if kind_of(r) == FUNCTION:
+        yield from of_visible(call, text, r)
 
 
 def line_of_row(row):
@@ -222,6 +227,34 @@ def line_of_row(row):
         return text, f"no {rest[0]} {rest[1]}".encode() + (b"\t" + message if message else b"")
     r, canonical = unhexed(rest[0]), unhexed(rest[1])
     return text, b"ok %s %d %s" % (KEYWORDS[kind_of(r)].encode(), len(r), canonical or b"-")
+
+
+# Visibility words, put into texts that the Rust reads without them.
+
+MUTABILITY = re.compile(r"[\t-\r \x85\xa0\u1680\u2000-\u200a\u2028\u2029\u202f\u205f\u3000]*(?:pure|view|payable)(?![A-Za-z0-9$_])")
+
+
+def places(text):
+    """Where a function's text that is read has its inputs behind it, and where its mutability word too, if there is one."""
+    open_there = itertools.accumulate((c == "(") - (c == ")") for c in text)
+    inputs = next(at for at, (c, depth) in enumerate(zip(text, open_there), 1) if c == ")" and depth == 0)
+    mutability = MUTABILITY.match(text, inputs)
+    return inputs, mutability.end() if mutability else inputs
+
+
+def of_visible(call, text, r):
+    """With a visibility word at either place a text is read as without it; of two the second is refused."""
+    text = text.decode()
+    first, second = places(text)
+    for word, place in itertools.product(VISIBILITIES, sorted({first, second})):
+        visible = f"{text[:place]} {word} {text[place:]}".encode()
+        yield from answered(call, visible, r if len(visible) <= MOST_BYTES else "no 8 0")
+    for words in itertools.product(VISIBILITIES, repeat=2):
+        front = f"{text[:first]} {words[0]} {text[first:second]} ".encode()
+        twice = front + f"{words[1]} {text[second:]}".encode()
+        number, position = (7, len(front)) if len(twice) <= MOST_BYTES else (8, 0)
+        yield from refused(call, twice, f"no {number} {position}")
+        yield from written(f"message:{call}", twice, message(call, twice, number, position))
 
 
 # Messages.
@@ -399,6 +432,43 @@ def of_place_words():
     yield from of_refused_text(b"function f(address memory a)", "function", 3, 26)
     yield from of_refused_text(b"function f(string storage memory)", "function", 3, 26)
     yield from of_refused_text(b"function f(string memory 1)", "function", 3, 25)
+
+
+# Texts with visibility words, which the Rust does not read.
+
+def of_visibility_words():
+    for text, r, canonical, outputs in (
+        (b"function f() external", function(), b"f()", b"()"),
+        (b"function f()public", function(), b"f()", b"()"),
+        (b"function f() pure external", function(mutability=0), b"f()", b"()"),
+        (b"function f() external payable;", function(mutability=3), b"f()", b"()"),
+        (b"function f() external view returns (uint)", function(mutability=1, outputs=[field(UINT)]), b"f()", b"(uint256)"),
+        (b"function external() external", function(name=b"external"), b"external()", b"()"),
+        (b"function public(uint public) public", function(field(UINT, b"public"), name=b"public"), b"public(uint256)", b"()"),
+    ):
+        yield from of_text(text, r, canonical, canonical + b":" + outputs)
+    for word, before, behind in itertools.product(VISIBILITIES, ("", " ", "   ", "\u3000"), ("", ";", "\n;\n")):
+        yield from of_text(f"function f(){before}{word}{behind}".encode(), function(), b"f()", b"f():()")
+    for text, number, position in (
+        (b"function f() external external", 7, 22),
+        (b"function f() external  public", 7, 23),
+        (b"function f() public public", 7, 20),
+        (b"function f() pure external view", 7, 27),
+        (b"function f() external pure public", 7, 27),
+        (b"function f() pure pure external", 7, 18),
+        (b"function f() returns (uint) external", 7, 28),
+        (b"function f() external returns (uint) public", 7, 37),
+        (b"function f() external;external", 7, 22),
+        (b"function f() internal", 7, 13),
+        (b"function f() public1", 7, 13),
+        (b"function f() externalpure", 7, 13),
+        (b"function f() external returns", 1, 29),
+        (b"function f() external returns (uin)", 3, 31),
+    ):
+        yield from of_refused_text(text, "function", number, position)
+    yield from of_refused_text(b"constructor() public", "constructor", 7, 14)
+    yield from of_refused_text(b"event e() external", "event", 7, 10)
+    yield from written("message:general", b"function f() external external", b'expected end of declaration at position 22("... external |external")')
 
 
 # Texts at the limits, where the Rust is not asked.

@@ -3,7 +3,8 @@
 
 A line is `CALL HEX`: the reading call, and the text's bytes in lower-case hex, `-` if
 there are none. Each group of texts below is a function that yields pairs of call and
-text. `main` drops repeated pairs and texts outside the domain.
+text. `main` drops repeated pairs and texts outside the domain; visible.py drops those with
+a visibility word where it may stand, when the oracle has told where that is.
 """
 
 import random
@@ -137,7 +138,7 @@ def without_visibility(text):
 
 def ordinary():
     """Declarations of token, exchange and governance contracts, as they are written
-    (a visibility word is refused with 7) and without the visibility word."""
+    (`internal` is refused with 7) and without the visibility word."""
     lines = Path(__file__).with_name("ordinary.txt").read_text(encoding="utf-8").splitlines()
     yield from by_general(lines)
     for line in map(without_visibility, lines):
@@ -255,6 +256,22 @@ def tails():
         ")", "[]", "\\", '"', "'",
     ]
     yield from by_general(f"{head}() {rest}" for head in HEADS.values() for rest in rests)
+
+
+def visibility():
+    """Visibility words as names, and where they are refused with 7: behind `returns` or `;`, as a
+    part of a word, behind a word that is none of a function's, and behind other lists."""
+    for word in ["external", "public"]:
+        yield from by_both([f"function {word}(int {word})", f"event {word}(int indexed {word})"])
+        yield from by_both([f"error {word}((int {word}) {word})", f"constructor(bytes memory {word})"])
+        rests = [
+            f"returns(int){word}", f"view returns () {word}", f"returns(){word} view", f";{word}",
+            f"pure ; {word}", f"{word}1", f"{word}pure", f"pure{word}", f"{word}$",
+            word.capitalize(), f"é {word}", f"internal {word}", f"nonpayable {word}",
+        ]
+        yield from by_both("function f() " + rest for rest in rests)
+        yield from by_both([f"constructor()payable {word}", f"constructor(){word} payable"])
+        yield from by_both([f"event e()anonymous\u3000{word}", f"event e(){word}", f"error e(){word};"])
 
 
 def tuple_depths():
@@ -599,9 +616,9 @@ def long_texts():
 
 GROUPS = [
     edges, openings, ordinary, elementary_kinds, bad_numbers, odd_kinds, array_suffixes,
-    short_kinds, kinds_in_lists, marks, tails, tuple_depths, tuple_suffixes, broken_lists,
-    short_declarations, blanks, messages, cut_characters, invalid_utf8, grammar_made, damaged,
-    cuts, long_texts,
+    short_kinds, kinds_in_lists, marks, tails, visibility, tuple_depths, tuple_suffixes,
+    broken_lists, short_declarations, blanks, messages, cut_characters, invalid_utf8, grammar_made,
+    damaged, cuts, long_texts,
 ]
 
 
