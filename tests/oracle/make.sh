@@ -1,5 +1,5 @@
 #!/usr/bin/env bash
-# Makes answers.txt: the texts of texts.py, each with the Rust original's answer.
+# Makes answers.txt: the texts of texts.py, each with the Rust original's answer; and, by tables.py, the rows of crates/orders.
 # Usage: ./make.sh           writes answers.txt and prints how many answers of each sort
 #        ./make.sh --check   compares instead of writing; exit status 1 if different
 # The list stands in crates/replay, whose program reads it; answers.txt is a link to it.
@@ -65,6 +65,7 @@ ORACLE=$("$HERE/build.sh")
 WORK=$(mktemp -d)
 trap 'rm -rf "$WORK"' EXIT
 make_answers
+ORACLE=$ORACLE python3 "$HERE/tables.py" "$@"
 if [ "${1:-}" = --check ]; then
   cmp "$WORK/answers.txt" "$ANSWERS" || exit 1
   echo "answers.txt is what the Rust original answers"
