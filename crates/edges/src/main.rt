@@ -1,4 +1,5 @@
-// Document 01's edges, one line each: the call, the text, and the answer. The file stdout has what document 01 says of each.
+// Document 01's edges, one line each: the call, the text, and the answer. The file stdout has what document 01 says of each, and of `string memory`
+// and `external` what orders 1 and 2 say.
 use model::Answer;
 use model::Call as Reading;
 use tables::FILL;
