@@ -23,7 +23,7 @@ fn ask(call: Call, text: &[u8], out: &mut [u8]) -> Answer {
         Call::Constructor => declaration::parse_constructor(text, out),
         Call::Event => declaration::parse_event(text, out),
         Call::Error => declaration::parse_error(text, out),
-        Call::Kind => value::parse_kind(text, out),
+        Call::Kind => kind_call::parse_kind(text, out),
     }
 }
 

@@ -85,7 +85,7 @@ pub extern "C" fn geusomin_parse_kind(text: &[u8], record: &mut [u8], value: &mu
     ensures shows { λ _. ⌜ now (value .exit) ≡ worth (outcome (length (now («record» .entry))) (kindOutput (now (text .entry)))) ⌝ }
     ensures left { λ _. ⌜ now («record» .exit) ≡ after (now («record» .entry)) (kindOutput (now (text .entry))) ⌝ }
 {
-    tell(value::parse_kind(text, record), value)
+    tell(kind_call::parse_kind(text, record), value)
 }
 
 #[no_mangle]

@@ -132,7 +132,7 @@ fn read(call: &[u8], text: &[u8], out: &mut [u8]) -> Answer {
         return declaration::parse_error(text, out);
     }
     if text::equal(call, b"kind") || text::equal(call, b"kind_text") {
-        return value::parse_kind(text, out);
+        return kind_call::parse_kind(text, out);
     }
     declaration::parse_declaration(text, out)
 }

@@ -471,7 +471,7 @@ fn ask(call: usize, text: &[u8], out: &mut [u8]) -> Answer {
         CONSTRUCTOR => declaration::parse_constructor(text, out),
         EVENT => declaration::parse_event(text, out),
         ERROR => declaration::parse_error(text, out),
-        _ => value::parse_kind(text, out),
+        _ => kind_call::parse_kind(text, out),
     }
 }
 

@@ -5,4 +5,3 @@ pub mod Runs
 pub mod Written
 pub mod Suffixing
 pub mod Leaves
-pub mod KindCall

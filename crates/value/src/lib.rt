@@ -1,5 +1,4 @@
-// Kinds as `ValueKind::from_str` reads them, written as records, and the kind call.
-use model::Answer;
+// Kinds as `ValueKind::from_str` reads them, written as records.
 use model::Refusal;
 use text::Maybe;
 ghost use mathlib.Core.Path.{_≡_};
@@ -11,8 +10,6 @@ ghost use Rattle.model.specs.Layout.{littleEndian, recordOf};
 ghost use Rattle.model.specs.Record.{encodeElementary};
 ghost use Rattle.layout.specs.Buffer.{put};
 ghost use Rattle.model.specs.Text.{span, one};
-ghost use Rattle.model.specs.Answer.{said, outcome, after};
-ghost use Rattle.model.specs.Calls.{kindOutput};
 ghost use Rattle.value.specs.Run.{RunIs, notShut, SuffixAt, SuffixPut, SuffixesAt, SuffixesPut, LeafAt, LeafPut};
 ghost use Rattle.value.specs.Elementary.{toElementary, widthOf, checkedWidth, lengthOf, checkedLength, toResult, widthNumber, lengthNumber, widthBehind, lengthBehind, ofWidth, ofLength};
 ghost use Rattle.kinds.specs.Kind.{int as intKind, uint as uintKind};
@@ -416,39 +413,4 @@ pub fn write_leaf(
     layout::copy(out, o + 14, name);
     write_base(out, o + 14 + m, base);
     write_suffixes(t, from, out, o + 14 + m + k);
-}
-
-// The kind call: reads a whole text as a kind and writes a field with mark 0 and an empty name.
-pub fn parse_kind(text: &[u8], record: &mut [u8]) -> Answer
-    ensures says { λ r. ⌜ said r ≡ outcome (length (now («record» .entry))) (kindOutput (now (text .entry))) ⌝ }
-    ensures left { λ _. ⌜ now («record» .exit) ≡ after (now («record» .entry)) (kindOutput (now (text .entry))) ⌝ }
-{
-    if 4096 < text.len() {
-        return refused(Refusal::TooLong, 0);
-    }
-    let n = text::valid_length(text);
-    if n < text.len() {
-        return refused(Refusal::NotUtf8, n);
-    }
-    if text::peek(text, 0) == 40 {
-        return refused(Refusal::StartsWithTuple, 0);
-    }
-    let k = from_str(text);
-    match k {
-        RunKind::Read { base, from, len } => {
-            let need = 14 + base_length(base) + len;
-            if record.len() < need {
-                return refused(Refusal::NoRoom, 0);
-            }
-            write_leaf(text, base, from, len, 0, &text[..0], record, 0);
-            Answer::Accepted { length: need }
-        }
-        RunKind::Refused(w) => refused(w, 0),
-    }
-}
-
-fn refused(refusal: Refusal, position: usize) -> Answer
-    ensures { λ r. ⌜ r ≡ Answer.Refused refusal position ⌝ }
-{
-    Answer::Refused { refusal, position }
 }

@@ -1,9 +1,9 @@
 use native.Mathlib.Omega.{arith}
 use mathlib.Core.Path.{refl}
-use Rattle.value.proofs.KindCall.{run-small, run-leaf, kind-long, kind-invalid, kind-tuple, kind-refused, kind-full, kind-done}
+use Rattle.kind_call.proofs.KindCall.{run-small, run-leaf, kind-long, kind-invalid, kind-tuple, kind-refused, kind-full, kind-done}
 use borrow.Author.Needs.{needs}
-use Rattle.value.proofs.parse_kind.Statement.{statement}
-use Rattle.value.proofs.parse_kind.Tie as tie
+use Rattle.kind_call.proofs.parse_kind.Statement.{statement}
+use Rattle.kind_call.proofs.parse_kind.Tie as tie
 
 refused-requires : tie.Need-refused-requires
 refused-requires c κs = search needs
