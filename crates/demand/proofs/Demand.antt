@@ -1,4 +1,4 @@
--- Demand 3 of the calls themselves: every fact about a run is one that the call's contract ensures.
+-- Demand 3 and order 3 of the calls themselves: every fact about a run is one that the call's contract ensures.
 -- Assumes nothing.
 use mathlib.Core.Path.{_≡_, refl, sym, _∙_, ap, ap₂}
 use mathlib.Core.Logic.{_↔_}
@@ -16,19 +16,20 @@ use Rattle.kinds.specs.Joined.{joined, Agree}
 use Rattle.model.specs.declared.Call.{Call}
 use Rattle.model.specs.declared.Call.the-variants as call
 use Rattle.model.specs.declared.Answer.{Answer}
-use Rattle.model.specs.Tree.{Declaration, nameKinds}
+use Rattle.model.specs.Tree.{Field, Declaration, nameKinds}
 use Rattle.model.specs.Parser.{got}
 use Rattle.model.specs.Reading.{longestText, parse}
-use Rattle.model.specs.Record.{encode, decode, wellFormed}
-use Rattle.model.specs.Line.{keywordIn, canonicalText, line}
+use Rattle.model.specs.Record.{encode, decode, decodeLone, wellFormed}
+use Rattle.model.specs.Line.{keywordIn, canonicalText, fieldText, line}
 use Rattle.model.specs.Answer.{accepted, refused, Output, writes, needed, said, outcome, after, handed, refusalNumber}
-use Rattle.model.specs.Calls.{written, readOutput, canonicalOutput, AcceptedAs, AllAccepted}
+use Rattle.model.specs.Calls.{written, readOutput, kindOutput, canonicalOutput, kindTextOutput, AcceptedAs, AllAccepted}
 use Rattle.model.specs.Calls as calls
 use Rattle.model.proofs.Pieces.{Bytes}
 use Rattle.model.proofs.Records.{decode-exactly, encode-bytes}
 use Rattle.model.proofs.Sound.{read-well-formed}
+use Rattle.model.proofs.KindReads.{kind-back}
 use Rattle.model.proofs.Demand.{joined-texts, line-back}
-use Rattle.demand.specs.Runs.{ReadRun, CanonicalRun, LineOf, LinesOf, no-text, one-text, endToEnd, lineText, ReadBack}
+use Rattle.demand.specs.Runs.{ReadRun, KindRun, CanonicalRun, KindTextRun, LineOf, LinesOf, no-text, one-text, endToEnd, lineText, ReadBack, KindReadBack}
 
 -- what an answer says is one thing
 accepted-same : {m n : ℕ} → accepted m ≡ accepted n → m ≡ n
@@ -174,4 +175,33 @@ module _ (b : List ℕ) (d : Declaration) (p : Prototype) (bytes : Bytes b) (say
             let w : canonicalOutput (take (length c) left₁) ≡ writes (take m left) = ap canonicalOutput there ∙ s .canonical ∙ ap writes (sym line-is) in
             let e = enough _ (take m left) w room₂ left₂ r₂ (q .says) (q .leaves) j in
             (e, ran _ (take m left) w room₂ left₂ r₂ (q .says) (q .leaves) (length (take m left)) e .1);
+      }
+
+-- Order 3: "Every field's kind text of at most 4,096 bytes must then read as the same kind." The bytes b are a well-formed field record, of which the
+-- kind-text call wrote the text
+module _ (b : List ℕ) (f : Field) (bytes : Bytes b) (says : decodeLone b ≡ some f) (room left : List ℕ) (r : Answer) (m : ℕ) (run : KindTextRun b room left r) (wrote : said r ≡ accepted m) where
+  kind-is : take m left ≡ fieldText f
+  unfolding kindTextOutput
+  kind-is = ran (kindTextOutput b) (fieldText f) (rw (kindTextOutput, says)) room left r (run .says) (run .leaves) m wrote .1
+
+  pub kind-reads-back : length (take m left) ≤ longestText → (room₁ left₁ : List ℕ) (r₁ : Answer) → needed (kindOutput (take m left)) ≤ length room₁ → KindRun (take m left) room₁ left₁ r₁
+      → KindReadBack f (take m left) left₁ r₁
+  unfolding needed
+  kind-reads-back h room₁ left₁ r₁ k run₁ =
+      let (c, out, s) = kind-back b f bytes says (rw kind-is at h) in
+      let o : Output = kindOutput (take m left) in
+      let here : kindOutput (take m left) ≡ writes c = ap kindOutput kind-is ∙ out in
+      let e = enough o c here room₁ left₁ r₁ (run₁ .says) (run₁ .leaves) (rw (here, needed) at k) in
+      let (_, there) = ran o c here room₁ left₁ r₁ (run₁ .says) (run₁ .leaves) (length c) e in
+      record {
+        n = length c;
+        read = e;
+        tree = s .tree;
+        says = ap decodeLone there ∙ s .says;
+        bare = s .bare;
+        same = s .same;
+        again = λ room₂ left₂ r₂ j q.
+            let w : kindTextOutput (take (length c) left₁) ≡ writes (take m left) = ap kindTextOutput there ∙ s .text ∙ ap writes (sym kind-is) in
+            let g = enough _ (take m left) w room₂ left₂ r₂ (q .says) (q .leaves) j in
+            (g, ran _ (take m left) w room₂ left₂ r₂ (q .says) (q .leaves) (length (take m left)) g .1);
       }

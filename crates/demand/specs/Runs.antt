@@ -1,4 +1,5 @@
--- Runs of the calls: what a call was lent, what it answered and what it left, in the form that its contract ensures; and what demand 3 says of them.
+-- Runs of the calls: what a call was lent, what it answered and what it left, in the form that its contract ensures; and what demand 3 and order 3
+-- say of them.
 -- Assumes nothing.
 use mathlib.Core.Path.{_≡_}
 use mathlib.Core.List.{List, [], _∷_, _++_}
@@ -11,22 +12,32 @@ use Rattle.model.specs.declared.Keyword.{Keyword}
 use Rattle.model.specs.declared.Call.{Call}
 use Rattle.model.specs.declared.Call.the-variants as call
 use Rattle.model.specs.declared.Answer.{Answer}
-use Rattle.model.specs.Tree.{Declaration, nameKinds}
+use Rattle.model.specs.Tree.{Field, Declaration, kindOf, fieldOf, nameKinds}
 use Rattle.model.specs.Reading.{keywordText}
-use Rattle.model.specs.Record.{decode}
+use Rattle.model.specs.Record.{decode, decodeLone}
 use Rattle.model.specs.Line.{keywordIn}
 use Rattle.model.specs.Answer.{accepted, said, outcome, after, handed, refusalNumber}
-use Rattle.model.specs.Calls.{readOutput, canonicalOutput, nameOutput, AcceptedAs}
+use Rattle.model.specs.Calls.{readOutput, kindOutput, canonicalOutput, kindTextOutput, nameOutput, AcceptedAs}
 
 -- a reading call on a text, which was lent `room` and left it as `left`
 pub record ReadRun (c : Call) (text room left : List ℕ) (r : Answer) : Type 0 where
   pub says : said r ≡ outcome (length room) (readOutput c text)
   pub leaves : left ≡ after room (readOutput c text)
 
+-- the kind call on a text
+pub record KindRun (text room left : List ℕ) (r : Answer) : Type 0 where
+  pub says : said r ≡ outcome (length room) (kindOutput text)
+  pub leaves : left ≡ after room (kindOutput text)
+
 -- the canonical call on a record
 pub record CanonicalRun (b room left : List ℕ) (r : Answer) : Type 0 where
   pub says : said r ≡ outcome (length room) (canonicalOutput b)
   pub leaves : left ≡ after room (canonicalOutput b)
+
+-- the kind-text call on a record
+pub record KindTextRun (b room left : List ℕ) (r : Answer) : Type 0 where
+  pub says : said r ≡ outcome (length room) (kindTextOutput b)
+  pub leaves : left ≡ after room (kindTextOutput b)
 
 -- the name call on a record
 pub record NameRun (b name : List ℕ) (refusal : ℕ) : Type 0 where
@@ -76,3 +87,14 @@ pub record ReadBack (k : Keyword) (p : Prototype) (line left : List ℕ) (r : An
   pub same : nameKinds tree ≡ some p
   pub name : (nm : List ℕ) (refusal : ℕ) → NameRun (take n left) nm refusal → (nm ≡ p .name) × (refusal ≡ 0)
   pub again : (room₁ left₁ : List ℕ) (r₁ : Answer) → length line ≤ length room₁ → CanonicalRun (take n left) room₁ left₁ r₁ → (said r₁ ≡ accepted (length line)) × (take (length line) left₁ ≡ line)
+
+-- a run of the kind call that read the kind text of a field "as the same kind": the record says the field of that kind, without a mark and names,
+-- and the kind-text call, lent enough, writes that text again
+pub record KindReadBack (f : Field) (text left : List ℕ) (r : Answer) : Type 0 where
+  pub n : ℕ
+  pub read : said r ≡ accepted n
+  pub tree : Field
+  pub says : decodeLone (take n left) ≡ some tree
+  pub bare : tree ≡ fieldOf (kindOf f)
+  pub same : kindOf tree ≡ kindOf f
+  pub again : (room₁ left₁ : List ℕ) (r₁ : Answer) → length text ≤ length room₁ → KindTextRun (take n left) room₁ left₁ r₁ → (said r₁ ≡ accepted (length text)) × (take (length text) left₁ ≡ text)

@@ -1,8 +1,8 @@
-// The calls that demand 3 speaks of, each with its contract in the form in which the theorems of proofs/Demand.antt take it: that it has that
+// The calls that demand 3 and order 3 speak of, each with its contract in the form in which the theorems of proofs/Demand.antt take it: that it has that
 // form is what is proved here.
 use model::Answer;
 use model::Call;
-ghost use Rattle.demand.specs.Runs.{ReadRun, CanonicalRun, NameRun};
+ghost use Rattle.demand.specs.Runs.{ReadRun, KindRun, CanonicalRun, KindTextRun, NameRun};
 
 pub fn parse_declaration(text: &[u8], record: &mut [u8]) -> Answer
     ensures { λ r. ⌜ ReadRun Call.General (now (text .entry)) (now («record» .entry)) (now («record» .exit)) r ⌝ }
@@ -28,10 +28,22 @@ pub fn parse_error(text: &[u8], record: &mut [u8]) -> Answer
     declaration::parse_error(text, record)
 }
 
+pub fn parse_kind(text: &[u8], record: &mut [u8]) -> Answer
+    ensures { λ r. ⌜ KindRun (now (text .entry)) (now («record» .entry)) (now («record» .exit)) r ⌝ }
+{
+    kind_call::parse_kind(text, record)
+}
+
 pub fn canonical(record: &[u8], text: &mut [u8]) -> Answer
     ensures { λ r. ⌜ CanonicalRun (now («record» .entry)) (now (text .entry)) (now (text .exit)) r ⌝ }
 {
     abi::canonical(record, text)
+}
+
+pub fn kind_text(record: &[u8], text: &mut [u8]) -> Answer
+    ensures { λ r. ⌜ KindTextRun (now («record» .entry)) (now (text .entry)) (now (text .exit)) r ⌝ }
+{
+    abi::kind_text(record, text)
 }
 
 pub fn name<'a>(record: &'a [u8], refusal: &mut u32) -> &'a [u8]

@@ -6,8 +6,9 @@ use Prim.Native.Nat.{ℕ, _+_, _≤_, _<_}
 use native.Mathlib.Omega.{arith}
 use lib.ListN.{length, take}
 use borrow.Author.Tests.{lt-ltb, le-ltb, ne-eqb}
+use Rattle.kinds.specs.Bytes.{lparen}
 use Rattle.model.specs.declared.Refusal.{Refusal}
-use Rattle.model.specs.declared.Refusal.the-variants.{TooLong, NotUtf8, StartsWithTuple, NoRoom}
+use Rattle.model.specs.declared.Refusal.the-variants.{TooLong, NotUtf8, NoRoom}
 use Rattle.model.specs.declared.Answer.{Answer}
 use Rattle.model.specs.declared.Answer.the-variants.{Accepted, Refused}
 use Rattle.model.specs.Text.{validLength, peek}
@@ -16,7 +17,7 @@ use Rattle.model.specs.KindText.{err, fromStr}
 use Rattle.model.specs.Reading.{admit}
 use Rattle.model.specs.Record.{encodeElementary, encodeField}
 use Rattle.model.specs.Answer.{writes, refuses}
-use Rattle.model.specs.Calls.{written, loneField, readKind, kindOutput}
+use Rattle.model.specs.Calls.{written, readKind, kindOutput}
 use Rattle.model.proofs.Bounds.{field-size}
 use Rattle.layout.proofs.Answers.{Ends, ends-refused, ends-full, ends-written}
 use Rattle.value.specs.declared.Base.{Base}
@@ -24,6 +25,9 @@ use Rattle.value.specs.declared.RunKind.{RunKind}
 use Rattle.value.specs.declared.RunKind.the-variants as run
 use Rattle.value.specs.Elementary.{toElementary}
 use Rattle.value.specs.Run.{ReadIs, RunIs, LeafAt, LeafPut}
+use Rattle.kind_call.specs.Outputs.{loneOutput, tupleOutput}
+
+-- A text that does not start with `(`.
 
 -- what a run that is read gives the writer
 module _ (s : List ℕ) (k : RunKind) (x : Base) (from len : ℕ) (i : RunIs s k) (j : k ≡ run.Read x from len) where
@@ -44,56 +48,54 @@ module _ (s : List ℕ) (k : RunKind) (x : Base) (from len : ℕ) (i : RunIs s k
     small = omega (arith, run-is .small);
   }
 
+module _ (s b : List ℕ) (r : Answer) (k : RunKind) (i : RunIs s k) where
+  pub lone-refused : (w : Refusal) → r ≡ Refused w 0 → k ≡ run.Refused w → Ends (loneOutput s) b b r
+  unfolding loneOutput written
+  lone-refused w e j = let x : fromStr s ≡ err w = subst (RunIs s) j i in ends-refused (loneOutput s) b r w 0 e (rw x)
+
+  module _ (x : Base) (from len : ℕ) (j : k ≡ run.Read x from len) where
+    lone-bytes : List ℕ
+    lone-bytes = encodeField 4 (field 0 [] (elementary (toElementary x)) (run-is s k x from len i j .suffixes))
+
+    lone-written : loneOutput s ≡ writes lone-bytes
+    unfolding loneOutput written lone-bytes
+    lone-written = rw (run-is s k x from len i j .same)
+
+    lone-needs : (m : ℕ) → m ≡ length (encodeElementary 4 (toElementary x)) → length lone-bytes ≡ 14 + m + len
+    unfolding lone-bytes encodeField
+    lone-needs m e = omega (arith, field-size 0 [] (elementary (toElementary x)) (run-is s k x from len i j .suffixes), e, run-is s k x from len i j .size)
+
+    pub lone-full : (m : ℕ) → m ≡ length (encodeElementary 4 (toElementary x)) → r ≡ Refused NoRoom 0 → length b < 14 + m + len → Ends (loneOutput s) b b r
+    lone-full m e z y = ends-full (loneOutput s) b r lone-bytes z lone-written (rw (lone-needs m e) y)
+
+    pub lone-done : (m : ℕ) (b₁ : List ℕ) → m ≡ length (encodeElementary 4 (toElementary x)) → r ≡ Accepted (14 + m + len) → 14 + m + len ≤ length b → LeafPut s x from 0 (take 0 s) 0 b b₁ → Ends (loneOutput s) b b₁ r
+    unfolding lone-bytes
+    lone-done m b₁ e z y w =
+        let u = lone-needs m e in
+        ends-written (loneOutput s) b r lone-bytes b₁ (z ∙ ap Accepted (sym u)) lone-written (omega arith) (w (run-is s k x from len i j .suffixes) (run-is s k x from len i j .suffixed))
+
+-- Any text.
+
 module _ (s b : List ℕ) (r : Answer) where
   pub kind-long : r ≡ Refused TooLong 0 → 4096 < length s → Ends (kindOutput s) b b r
   unfolding kindOutput admit written
   kind-long e h = ends-refused (kindOutput s) b r TooLong 0 e (rw (admit, lt-ltb 4096 (length s) h))
 
-  pub kind-invalid : (n : ℕ) → r ≡ Refused NotUtf8 n → length s ≤ 4096 → n ≡ validLength s → n < length s → Ends (kindOutput s) b b r
-  unfolding kindOutput admit written
-  kind-invalid n e h q k = ends-refused (kindOutput s) b r NotUtf8 n e (rw (admit, le-ltb 4096 (length s) h, lt-ltb (validLength s) (length s) (rw q at k)) (ap (refuses NotUtf8) (sym q)))
+  module _ (n : ℕ) (h : length s ≤ 4096) (q : n ≡ validLength s) where
+    pub kind-invalid : r ≡ Refused NotUtf8 n → n < length s → Ends (kindOutput s) b b r
+    unfolding kindOutput admit written
+    kind-invalid e k = ends-refused (kindOutput s) b r NotUtf8 n e (rw (admit, le-ltb 4096 (length s) h, lt-ltb (validLength s) (length s) (rw q at k)) (ap (refuses NotUtf8) (sym q)))
 
-  -- past the two limits
-  admitted : (n : ℕ) → length s ≤ 4096 → n ≡ validLength s → length s ≤ n → kindOutput s ≡ written (encodeField 4) (readKind s)
-  unfolding kindOutput admit
-  admitted n h q k = rw (admit, le-ltb 4096 (length s) h, ← q, le-ltb n (length s) k)
+    -- past the two limits
+    module _ (k : length s ≤ n) (c : ℕ) (f : c ≡ peek s 0) (b₁ : List ℕ) where
+      admitted : kindOutput s ≡ written (encodeField 4) (readKind s)
+      unfolding kindOutput admit
+      admitted = rw (admit, le-ltb 4096 (length s) h, ← q, le-ltb n (length s) k)
 
-  pub kind-tuple : (n c : ℕ) → r ≡ Refused StartsWithTuple 0 → length s ≤ 4096 → n ≡ validLength s → length s ≤ n → c ≡ peek s 0 → c ≡ 40 → Ends (kindOutput s) b b r
-  unfolding readKind written
-  kind-tuple n c e h q k f g = ends-refused (kindOutput s) b r StartsWithTuple 0 e (admitted n h q k ∙ rw (readKind, ← f, g))
+      pub kind-tuple : c ≡ lparen → Ends (tupleOutput s) b b₁ r → Ends (kindOutput s) b b₁ r
+      unfolding readKind tupleOutput
+      kind-tuple g e = let z : kindOutput s ≡ tupleOutput s = admitted ∙ rw (readKind, ← f, g) in rw z e
 
-  lone : (n c : ℕ) → length s ≤ 4096 → n ≡ validLength s → length s ≤ n → c ≡ peek s 0 → (c ≡ 40 → ⊥) → kindOutput s ≡ written (encodeField 4) (loneField (fromStr s))
-  unfolding readKind
-  lone n c h q k f g = admitted n h q k ∙ rw (readKind, ← f, ne-eqb c 40 g)
-
-  pub kind-refused : (n c : ℕ) (k : RunKind) (w : Refusal) → r ≡ Refused w 0 → length s ≤ 4096 → n ≡ validLength s → length s ≤ n → c ≡ peek s 0 → (c ≡ 40 → ⊥)
-      → RunIs s k → k ≡ run.Refused w → Ends (kindOutput s) b b r
-  unfolding written
-  kind-refused n c k w e h q l f g i j =
-      let x : fromStr s ≡ err w = is-err k j i in
-      ends-refused (kindOutput s) b r w 0 e (lone n c h q l f g ∙ rw x)
-    where
-      is-err : (k : RunKind) → k ≡ run.Refused w → RunIs s k → fromStr s ≡ err w
-      is-err k j i = subst (RunIs s) j i
-
-  module _ (n c : ℕ) (k : RunKind) (x : Base) (from len : ℕ) (h : length s ≤ 4096) (q : n ≡ validLength s) (l : length s ≤ n) (f : c ≡ peek s 0) (g : c ≡ 40 → ⊥)
-      (i : RunIs s k) (j : k ≡ run.Read x from len) where
-    kind-bytes : List ℕ
-    kind-bytes = encodeField 4 (field 0 [] (elementary (toElementary x)) (run-is s k x from len i j .suffixes))
-
-    kind-written : kindOutput s ≡ writes kind-bytes
-    unfolding written kind-bytes
-    kind-written = lone n c h q l f g ∙ rw (run-is s k x from len i j .same)
-
-    kind-needs : (m : ℕ) → m ≡ length (encodeElementary 4 (toElementary x)) → length kind-bytes ≡ 14 + m + len
-    unfolding kind-bytes encodeField
-    kind-needs m e = omega (arith, field-size 0 [] (elementary (toElementary x)) (run-is s k x from len i j .suffixes), e, run-is s k x from len i j .size)
-
-    pub kind-full : (m : ℕ) → m ≡ length (encodeElementary 4 (toElementary x)) → r ≡ Refused NoRoom 0 → length b < 14 + m + len → Ends (kindOutput s) b b r
-    kind-full m e z y = ends-full (kindOutput s) b r kind-bytes z kind-written (rw (kind-needs m e) y)
-
-    pub kind-done : (m : ℕ) (b₁ : List ℕ) → m ≡ length (encodeElementary 4 (toElementary x)) → r ≡ Accepted (14 + m + len) → 14 + m + len ≤ length b → LeafPut s x from 0 (take 0 s) 0 b b₁ → Ends (kindOutput s) b b₁ r
-    unfolding kind-bytes
-    kind-done m b₁ e z y w =
-        let u = kind-needs m e in
-        ends-written (kindOutput s) b r kind-bytes b₁ (z ∙ ap Accepted (sym u)) kind-written (omega arith) (w (run-is s k x from len i j .suffixes) (run-is s k x from len i j .suffixed))
+      pub kind-lone : (c ≡ lparen → ⊥) → Ends (loneOutput s) b b₁ r → Ends (kindOutput s) b b₁ r
+      unfolding readKind loneOutput
+      kind-lone g e = let z : kindOutput s ≡ loneOutput s = admitted ∙ rw (readKind, ← f, ne-eqb c lparen g) in rw z e

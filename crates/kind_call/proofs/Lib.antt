@@ -1,1 +1,3 @@
+pub mod Scanning
+pub mod Answering
 pub mod KindCall

@@ -34,7 +34,7 @@ pub inner-digits : (o : Suffix) → all isDigit (inner o) ≡ true
 inner-digits (sized n) = decimal-digits n
 inner-digits unsized = refl
 
-inner-word : (o : Suffix) → all isWordByte (inner o) ≡ true
+pub inner-word : (o : Suffix) → all isWordByte (inner o) ≡ true
 inner-word o = all-weaken isDigit isWordByte digit-word (inner o) (inner-digits o)
 
 -- a suffix takes two bytes at least

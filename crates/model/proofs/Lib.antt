@@ -14,10 +14,13 @@ pub mod Records
 pub mod Stands
 pub mod KindBack
 pub mod Readback
+pub mod Tuples
 pub mod Spelling
+pub mod Bare
 pub mod Loose
 pub mod Lengths
 pub mod Modifiers
 pub mod Lines
+pub mod KindReads
 pub mod Messages
 pub mod Demand

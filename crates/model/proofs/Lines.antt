@@ -16,7 +16,7 @@ use Rattle.model.specs.declared.Keyword.{Keyword}
 use Rattle.model.specs.declared.Keyword.the-variants as key
 use Rattle.model.specs.declared.Call.the-variants as call
 use Rattle.model.specs.Text.{skip}
-use Rattle.model.specs.Tree.{Base, elementary, tuple, Field, field, Fields, noField, moreFields, notStated, Declaration, arrays, baseKind, kindOf, kindsOf, nameKinds}
+use Rattle.model.specs.Tree.{Base, elementary, tuple, Field, field, Fields, noField, moreFields, notStated, Declaration, arrays, baseKind, kindOf, kindsOf, nameKinds, fieldsOf}
 use Rattle.model.specs.KindText.{Entry, entry, lookup}
 use Rattle.model.specs.Parser.{got, Parser, onAns, then, _>>=_, return, keywordOf, ident, keyword, option, atEnd, end}
 use Rattle.model.specs.Reading.{deepest, fields, modifiers, returns, keywordText, function, event, error, exec, parserOf, wanted, readDeclaration, longestText, parse}
@@ -29,7 +29,7 @@ use Rattle.model.proofs.Modifiers.{no-modifiers}
 use Rattle.model.proofs.KindBack.{word-ascii}
 use Rattle.model.proofs.Bounds.{In}
 use Rattle.model.proofs.Sound.{fields-are-kinds}
-use Rattle.model.proofs.Spelling.{fieldsOf, kinds-fields, list-itself, kinds-spelled, list-ascii}
+use Rattle.model.proofs.Spelling.{kinds-fields, list-itself, kinds-spelled, list-ascii}
 
 -- the kinds of well-formed fields keep to the limits
 arrays-fit : (ss : List Suffix) (d : ℕ) (k : Kind) → fits d k ≡ true → all isSuffix ss ≡ true → fits d (arrays k ss) ≡ true
@@ -45,7 +45,7 @@ mutual
   base-fits (tuple fs) zero h = h
   base-fits (tuple fs) (suc d) h = fields-fit fs Plain d h
 
-  field-fits : (f : Field) (sort : Sort) (d : ℕ) → isField sort d f ≡ true → fits d (kindOf f) ≡ true
+  pub field-fits : (f : Field) (sort : Sort) (d : ℕ) → isField sort d f ≡ true → fits d (kindOf f) ≡ true
   field-fits (field m nm b ss) sort d h = arrays-fit ss d (baseKind b) (base-fits b d (search (left, right))) (search (left, right))
 
   fields-fit : (fs : Fields) (sort : Sort) (d : ℕ) → areFields sort d fs ≡ true → allFit d (kindsOf fs) ≡ true

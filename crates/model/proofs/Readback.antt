@@ -29,21 +29,21 @@ use Rattle.model.proofs.Marks.{either, mark-worded, mark-found, mark-na
 use Rattle.model.proofs.Stands.{isQuiet, quiet, Reads, reads-then, reads-on, reads-return, reads-char, look-here, look-absent, look-spaced, word-spaced, reads-name, option-there, option-absent}
 use Rattle.model.proofs.KindBack.{inner, suffix-inner, inner-digits, suffixes-long, spelled-suffixes, spelled-word, spelled-run}
 
--- `,` or `)`, and anything behind
+-- `,` or `)`, and anything behind; or the end of the text
 abbrev pub isEnd : List ℕ → Bool
-isEnd [] = false
+isEnd [] = true
 isEnd (c ∷ r) = eqb c comma || eqb c rparen
 
-by-end : (P : List ℕ → Type 0) → ((r : List ℕ) → P (comma ∷ r)) → ((r : List ℕ) → P (rparen ∷ r)) → (r : List ℕ) → isEnd r ≡ true → P r
-by-end P f g [] h = absurd (false≢true h)
-by-end P f g (c ∷ r) h = go (eqb c comma) refl h
+by-end : (P : List ℕ → Type 0) → P [] → ((r : List ℕ) → P (comma ∷ r)) → ((r : List ℕ) → P (rparen ∷ r)) → (r : List ℕ) → isEnd r ≡ true → P r
+by-end P e f g [] h = e
+by-end P e f g (c ∷ r) h = go (eqb c comma) refl h
   where
     go : (b : Bool) → eqb c comma ≡ b → (b || eqb c rparen) ≡ true → P (c ∷ r)
-    go true e k = rw (eqb-true c comma e) (f r)
-    go false e k = rw (eqb-true c rparen k) (g r)
+    go true q k = rw (eqb-true c comma q) (f r)
+    go false q k = rw (eqb-true c rparen k) (g r)
 
 end-quiet : (r : List ℕ) → isEnd r ≡ true → isQuiet r ≡ true
-end-quiet = by-end (λ r. isQuiet r ≡ true) (λ r. refl) (λ r. refl)
+end-quiet = by-end (λ r. isQuiet r ≡ true) refl (λ r. refl) (λ r. refl)
 
 -- Marks.
 
@@ -104,7 +104,7 @@ pub record Tail (u : List ℕ) : Type 0 where
 
 tail-end : (r : List ℕ) → isEnd r ≡ true → Tail r
 tail-end =
-    by-end Tail (λ r. record { stops = refl; shut = λ s at e. look-absent lbracket s at (comma ∷ r) refl refl e })
+    by-end Tail (record { stops = refl; shut = λ s at e. look-absent lbracket s at [] refl refl e }) (λ r. record { stops = refl; shut = λ s at e. look-absent lbracket s at (comma ∷ r) refl refl e })
     (λ r. record { stops = refl; shut = λ s at e. look-absent lbracket s at (rparen ∷ r) refl refl e })
 
 tail-word : (c : ℕ) (r : List ℕ) → isLetter c ≡ true → Tail (space ∷ c ∷ r)

@@ -184,7 +184,7 @@ module _ (s : List ℕ) where
 
 -- Fields and lists.
 
-abbrev OneField : List ℕ → Sort → ℕ → ℕ → Field → ℕ → Type 0
+abbrev pub OneField : List ℕ → Sort → ℕ → ℕ → Field → ℕ → Type 0
 OneField s sort d = Read s (λ f _. isField sort d f ≡ true) (λ f. length (encodeField 4 f))
 
 field-further : {s : List ℕ} {P : Field → ℕ → Type 0} {at n : ℕ} (f : Field) → Read s P (λ g. length (encodeField 4 g)) at f n → at < n
@@ -211,7 +211,7 @@ module _ (s : List ℕ) where
       go none e i = gives (rw (isMark, e) (or-true (hasMark es unmarked))) (omega arith) h
       go (some m) e i = let w = word-places s at h in gives (rw (isMark, i)) (omega arith) (w .1)
 
-  field-of : (sort : Sort) (T : Parser FieldKind) (d at : ℕ) → ((p : ℕ) → p < length s → Of s (OneKind s d p) (T s p)) → at ≤ length s → Of s (OneField s sort d at) (fieldBy sort T s at)
+  pub field-of : (sort : Sort) (T : Parser FieldKind) (d at : ℕ) → ((p : ℕ) → p < length s → Of s (OneKind s d p) (T s p)) → at ≤ length s → Of s (OneField s sort d at) (fieldBy sort T s at)
   unfolding fieldBy isField
   field-of sort T d at t h =
       then-of (field-kind-of T d at t h) (λ k n q.
@@ -246,7 +246,7 @@ module _ (s : List ℕ) (sort : Sort) (d : ℕ) (F : Parser Field) (f : (at : �
   list-of at h = follow-of (rest F (length s) s) at h (omega arith) (rest-of (length s)) (f at h)
 
 module _ (s : List ℕ) where
-  tuple-kind-of : (d p : ℕ) → p < length s → Of s (OneKind s d p) (tupleKind d s p)
+  pub tuple-kind-of : (d p : ℕ) → p < length s → Of s (OneKind s d p) (tupleKind d s p)
   unfolding tupleKind isBase encodeBase
   tuple-kind-of zero p h = opens h
   tuple-kind-of (suc d) p h =

@@ -392,6 +392,6 @@ pub encode-bytes : (d : Declaration) → wellFormed d ≡ true → Bytes (encode
 unfolding wellFormed
 encode-bytes d h = declaration-bytes 4 d (left _ h)
 
-encode-field-bytes : (f : Field) → wellFormedField f ≡ true → Bytes (encodeField 4 f)
+pub encode-field-bytes : (f : Field) → wellFormedField f ≡ true → Bytes (encodeField 4 f)
 unfolding wellFormedField
 encode-field-bytes f h = field-bytes 4 f Plain deepest (left _ h)

@@ -1,15 +1,15 @@
 -- What the calls read: it is well formed, its record is small, places lie within the text, and calls that both accept read the same.
 -- Assumes nothing.
 use mathlib.Core.Path.{_≡_, refl, sym, _∙_, ap, subst}
-use mathlib.Core.Bool.{true}
+use mathlib.Core.Bool.{Bool, true, false, cond}
 use mathlib.Core.List.{List, [], _∷_}
 use mathlib.Core.Option.{Option, none, some}
-use Prim.Native.Nat.{ℕ, zero, suc, _*_, _≤_, _<_, zero-le}
+use Prim.Native.Nat.{ℕ, zero, suc, _+_, _*_, _≤_, _<_, zero-le}
 use native.Mathlib.Omega.{arith}
 use lib.Dec.{leb, ltb, eqb}
 use lib.ListN.{length, length-append}
 use borrow.Author.Tests.{ltb-false, le-leb}
-use Rattle.kinds.specs.Bytes.{ascii, lparen, between, isWord}
+use Rattle.kinds.specs.Bytes.{ascii, lparen, rparen, between, isWord}
 use Rattle.kinds.specs.Kind.{Suffix, Kind, Prototype, isKind, areKinds}
 use Rattle.kinds.proofs.Logic.{both, left, right}
 use Rattle.model.specs.declared.Refusal.{Refusal}
@@ -22,16 +22,16 @@ use Rattle.model.specs.Text.{peek, validLength}
 use Rattle.model.specs.Tree.{Base, elementary, tuple, Field, field, Fields, noField, moreFields, isPayable, notStated, Declaration, arrays, baseKind, kindOf, kindsOf, nameKinds}
 use Rattle.model.specs.KindText.{Result, ok, err, entry, Spelled, fromStr}
 use Rattle.model.specs.Parser.{Ans, got, bad, deep, word}
-use Rattle.model.specs.Reading.{deepest, keywordText, function, constructor, event, error, exec, parserOf, wanted, readBy, readDeclaration, longestText, keywords, openingOf, admit, parse, marks}
+use Rattle.model.specs.Reading.{deepest, keywordText, function, constructor, event, error, exec, parserOf, wanted, readBy, readDeclaration, longestText, keywords, openingOf, admit, parse, marks, fieldBy, tupleKind}
 use Rattle.model.specs.Layout.{littleEndian}
 use Rattle.model.specs.Record.{encode, encodeName, encodeList, encodeField, isMark, encodeBase, isBase, isField, areFields, isDeclaration, longestRecord, wellFormed, wellFormedField}
 use Rattle.model.specs.Line.{keywordIn}
 use Rattle.model.specs.Answer.{refused, outcome}
-use Rattle.model.specs.Calls.{written, readOutput, loneField, readKind, kindOutput, AcceptedAs}
+use Rattle.model.specs.Calls.{written, readOutput, loneField, openBy, crowded, isBare, allOf, tupleBy, readTuple, readKind, kindOutput, AcceptedAs}
 use Rattle.model.proofs.Scans.{span-le}
 use Rattle.model.proofs.Bounds.{tested, In, Right, Spells, spelled, record-size, field-size}
 use Rattle.model.proofs.Holds.{Of, reads, is-got, is-bad, is-deep, refuses as refuses-at, opens, Read, then-of, on-of, as-of, read, gives}
-use Rattle.model.proofs.Readers.{keyword-of, ident-of, option-of, end-of, fields-of, modifiers-of, returns-of}
+use Rattle.model.proofs.Readers.{OneField, field-of, tuple-kind-of, keyword-of, ident-of, option-of, end-of, fields-of, modifiers-of, returns-of}
 
 -- a declaration read from `at` on, behind its keyword
 pub record Declares (s : List ℕ) (at : ℕ) (k : Keyword) (d : Declaration) : Type 0 where
@@ -181,9 +181,40 @@ pub record AcceptsKind (s : List ℕ) (f : Field) (n : ℕ) : Type 0 where
   pub paid : length (encodeField 4 f) ≤ 10 * length s
   pub short : length s ≤ longestText
 
+-- where one tuple too many opens lies within the text
+crowded-within : (t : List ℕ) (l p : ℕ) → In (λ q. q < p + length t) (crowded l p t)
+unfolding crowded
+crowded-within [] l p = tt
+crowded-within (c ∷ t) l p = go l (eqb c lparen) (eqb c rparen) (λ k. further (crowded k (suc p) t) (crowded-within t k (suc p)))
+  where
+    further : (o : Option ℕ) → In (λ q. q < suc p + length t) o → In (λ q. q < p + suc (length t)) o
+    further none i = tt
+    further (some q) i = omega arith
+
+    go : (l : ℕ) (a b : Bool) → ((k : ℕ) → In (λ q. q < p + suc (length t)) (crowded k (suc p) t))
+        → In (λ q. q < p + suc (length t)) (cond a (openBy l p (λ k. crowded k (suc p) t)) (cond b (crowded (suc l) (suc p) t) (crowded l (suc p) t)))
+    go zero true b ih = omega arith
+    go (suc l) true b ih = ih l
+    go l false true ih = ih (suc l)
+    go l false false ih = ih l
+
+-- a tuple's text, read as a list's reader reads it
+tuple-of : (s : List ℕ) → length s ≤ longestText → Of s (AcceptsKind s) (readTuple s)
+unfolding readTuple
+tuple-of s l = go (crowded deepest 0 s) (crowded-within s deepest 0)
+  where
+    whole : (r : Ans Field) → Of s (OneField s Plain deepest 0) r → Of s (AcceptsKind s) (allOf (length s) r)
+    whole (got f n) q = tested (Of s (AcceptsKind s)) (eqb n (length s)) (λ _. let h = is-got q f n refl in reads (record { valid = h .holds; paid = omega (arith, h .paid, h .within); short = l })) (λ _. refuses-at zero-le)
+    whole (bad w p) q = refuses-at zero-le
+    whole (deep p) q = refuses-at zero-le
+
+    go : (o : Option ℕ) → In (λ p. p < 0 + length s) o → Of s (AcceptsKind s) (tupleBy s o)
+    go (some p) i = opens {p = p} (omega (arith, i))
+    go none i = tested (Of s (AcceptsKind s)) (isBare false s) (λ _. whole (fieldBy Plain (tupleKind deepest) s 0) (field-of s Plain (tupleKind deepest) deepest 0 (tuple-kind-of s deepest) zero-le)) (λ _. refuses-at zero-le)
+
 kind-of : (s : List ℕ) → Of s (AcceptsKind s) (admit readKind s)
 unfolding readKind isField isMark marks isBase encodeBase
-kind-of s = admit-of s readKind (λ l. tested (Of s (AcceptsKind s)) (eqb (peek s 0) lparen) (λ _. refuses-at zero-le) (λ _. go l (fromStr s) (spelled s)))
+kind-of s = admit-of s readKind (λ l. tested (Of s (AcceptsKind s)) (eqb (peek s 0) lparen) (λ _. tuple-of s l) (λ _. go l (fromStr s) (spelled s)))
   where
     go : length s ≤ longestText → (r : Result Spelled) → Right (Spells s) r → Of s (AcceptsKind s) (loneField r)
     go l (err w) q = refuses-at zero-le

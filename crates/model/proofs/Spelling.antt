@@ -3,46 +3,31 @@
 use mathlib.Core.Path.{_≡_, refl, sym, _∙_, ap, ap₂}
 use mathlib.Core.Bool.{Bool, true, false, false≢true}
 use mathlib.Core.List.{List, [], _∷_, _++_, append-assoc, append-nil}
-use Prim.Native.Nat.{ℕ, zero, suc, _≤_}
+use Prim.Native.Nat.{ℕ, zero, suc, _+_, _≤_}
+use native.Mathlib.Omega.{arith}
 use lib.Dec.{eqb}
 use lib.ListN.{length}
+use borrow.Author.Tests.{eq-eqb}
 use Rattle.kinds.specs.Bytes.{lparen, all, isAscii}
 use Rattle.kinds.specs.Kind.{isKind, areKinds, Elementary, Suffix, Kind, Kinds, noKind, moreKinds, suffixText, kindText, listText, restText}
 use Rattle.kinds.proofs.Logic.{both, left, right, all-append}
+use Rattle.model.specs.declared.Refusal.the-variants.{Unknown}
 use Rattle.model.specs.declared.Sort.{Sort}
 use Rattle.model.specs.declared.Sort.the-variants.{Plain, Parameter, Event}
-use Rattle.model.specs.Tree.{Base, elementary, tuple, Field, field, Fields, noField, moreFields, unmarked, arrays, baseKind, kindOf, kindsOf}
-use Rattle.model.specs.Reading.{canSpecifyLocation, marksBy, marks, fieldBy, list, tupleKind, longestText, admit}
-use Rattle.model.specs.Calls.{readKind}
-use Rattle.model.specs.Parser.{got}
+use Rattle.model.specs.Tree.{Base, elementary, tuple, Field, field, Fields, unmarked, arrays, baseKind, kindOf, kindsOf, suffixesOf, baseOf, fieldsOf, fieldOf}
+use Rattle.model.specs.Parser.{got, bad}
+use Rattle.model.specs.Reading.{canSpecifyLocation, marksBy, marks, fieldBy, list, tupleKind, deepest, longestText, admit}
 use Rattle.model.specs.Record.{isSuffix, isMark, isBase, isField, areFields}
+use Rattle.model.specs.Calls.{allOf, tupleBy, readTuple, readKind}
 use Rattle.model.specs.Written.{suffixesText, SpellsElementary, itself, SpellsKind, SpellsList, SpellsRest, fits, allFit}
 use Rattle.model.proofs.Stands.{first, peek-first, admit-ascii, Reads}
 use Rattle.model.proofs.KindBack.{spelled-suffixes, spelled-word, word-ascii, suffix-ascii}
 use Rattle.model.proofs.Readback.{isEnd, ReadsBase, ReadsField, ReadsList, ReadsRest, base-lone, base-grouped, field-whole, list-empty, list-more, rest-empty, rest-more}
+use Rattle.model.proofs.Tuples.{uncrowded, all-bare}
 
 -- Fields without marks and names.
 
--- those of kinds
-pub suffixesOf : Kind → List Suffix
-suffixesOf (Kind.elementary e) = []
-suffixesOf (Kind.tuple ks) = []
-suffixesOf (Kind.array k s) = suffixesOf k ++ (s ∷ [])
-
-mutual
-  pub baseOf : Kind → Base
-  baseOf (Kind.elementary e) = elementary e
-  baseOf (Kind.tuple ks) = tuple (fieldsOf ks)
-  baseOf (Kind.array k s) = baseOf k
-
-  pub fieldsOf : Kinds → Fields
-  fieldsOf noKind = noField
-  fieldsOf (moreKinds k ks) = moreFields (field unmarked [] (baseOf k) (suffixesOf k)) (fieldsOf ks)
-
-abbrev pub fieldOf : Kind → Field
-fieldOf k = field unmarked [] (baseOf k) (suffixesOf k)
-
--- they have those kinds
+-- those of kinds have those kinds
 arrays-last : (ss : List Suffix) (k : Kind) (s : Suffix) → arrays k (ss ++ (s ∷ [])) ≡ Kind.array (arrays k ss) s
 unfolding arrays
 arrays-last [] k s = refl
@@ -94,7 +79,7 @@ mutual
 mutual
   unfolding kindText
 
-  kind-itself : (k : Kind) → SpellsKind k (kindText k)
+  pub kind-itself : (k : Kind) → SpellsKind k (kindText k)
   kind-itself (Kind.elementary e) = itself e
   kind-itself (Kind.tuple ks) = (listText ks, refl, list-itself ks)
   kind-itself (Kind.array k s) = (kindText k, refl, kind-itself k)
@@ -194,6 +179,26 @@ mutual
   rest-ascii noKind t w = rw w
   rest-ascii (moreKinds k ks) t w = rw (w .2, all-append) (both (kind-ascii k (w .0) (w .3)) (rest-ascii ks (w .1) (w .4)))
 
-pub kind-call-admits : (k : Kind) (t : List ℕ) → SpellsKind k t → (d : ℕ) → isKind k ≡ true → fits d k ≡ true → eqb (first t) lparen ≡ false → length t ≤ longestText
-    → admit readKind t ≡ got (fieldOf k) 0
-kind-call-admits k t w d h f n l = admit-ascii readKind t (kind-ascii k t w) l ∙ kind-call-spelled k t w d h f n
+-- what begins with `(`
+whole-field : (f : Field) (n m : ℕ) → m ≡ n → allOf n (got f m) ≡ got f 0
+whole-field f n m e = rw (allOf, eq-eqb m n e)
+
+tuple-call-spelled : (k : Kind) (t : List ℕ) → SpellsKind k t → isKind k ≡ true → fits deepest k ≡ true → readTuple t ≡ got (fieldOf k) 0
+unfolding readTuple
+tuple-call-spelled k t w h f =
+    let q : fieldBy Plain (tupleKind deepest) t 0 ≡ got (fieldOf k) (0 + length t) = kind-spelled k t w Plain deepest h f [] refl t 0 (sym (append-nil t)) in
+    ap (tupleBy t) (uncrowded k t w f)
+    ∙ ap (λ b. elim b [ true ↦ allOf (length t) (fieldBy Plain (tupleKind deepest) t 0) | false ↦ bad Unknown 0 ]) (all-bare k t w)
+    ∙ ap (allOf (length t)) q
+    ∙ whole-field (fieldOf k) (length t) (0 + length t) (omega arith)
+
+pub kind-call-reads : (k : Kind) (t : List ℕ) → SpellsKind k t → isKind k ≡ true → fits deepest k ≡ true → readKind t ≡ got (fieldOf k) 0
+unfolding readKind
+kind-call-reads k t w h f = go (eqb (first t) lparen) refl
+  where
+    go : (b : Bool) → eqb (first t) lparen ≡ b → readKind t ≡ got (fieldOf k) 0
+    go true e = rw (readKind, peek-first t 0 t refl, e) (tuple-call-spelled k t w h f)
+    go false e = kind-call-spelled k t w deepest h f e
+
+pub kind-call-admits : (k : Kind) (t : List ℕ) → SpellsKind k t → isKind k ≡ true → fits deepest k ≡ true → length t ≤ longestText → admit readKind t ≡ got (fieldOf k) 0
+kind-call-admits k t w h f l = admit-ascii readKind t (kind-ascii k t w) l ∙ kind-call-reads k t w h f

@@ -17,7 +17,7 @@ use Rattle.model.specs.Parser.{got}
 use Rattle.model.specs.Reading.{parse}
 use Rattle.model.specs.Record.{isField, decode}
 use Rattle.model.specs.Answer.{writes, accepted, refused, outcome, after}
-use Rattle.model.specs.Calls.{readOutput, readKind, canonicalOutput, signatureOutput, nameOutput}
+use Rattle.model.specs.Calls.{readOutput, readKind, kindOutput, canonicalOutput, signatureOutput, nameOutput}
 use Rattle.model.specs.Message.{messageOutput}
 use Rattle.model.specs.Deposit.{depositLine}
 use Rattle.model.proofs.Evaluation.{evaluation}
@@ -142,3 +142,26 @@ second-words = (refl, refl, refl, refl)
 other-places : Refused7 "function f() external returns (uint) public" 37 × Refused7 "function f() external;external" 22 × Refused7 "function f() internal" 13 × Refused7 "function f() externalpure" 13 × Refused7 "constructor() public" 14 × Refused7 "event e() external" 10 × Refused7 "error e() public" 10
 unfolding evaluation
 other-places = (refl, refl, refl, refl, refl, refl, refl)
+
+-- Order 3: a tuple in the kind call. Its components are kinds that the kind call reads, with `+` and zeros where these stand there; its own suffix
+-- has digits only
+tuple-kind : (readKind (ascii "()") ≡ got (field 0 [] (tuple noField) []) 0) × (readKind (ascii "(uint[+2],())[02][]") ≡ got (field 0 [] (tuple (moreFields (field 0 [] (elementary (uint (bits 256))) (sized 2 ∷ [])) (moreFields (field 0 [] (tuple noField) []) noField))) (sized 2 ∷ unsized ∷ [])) 0)
+unfolding evaluation
+tuple-kind = (refl, refl)
+
+-- "no blanks, no names"; a component's own number is not told; all of the text is one kind
+abbrev Unfit : String → Type 0
+Unfit t = outcome 1000 (kindOutput (ascii t)) ≡ refused 13 0
+
+blank-or-name : Unfit "(uint )" × Unfit "() " × Unfit "()[ ]" × Unfit "(uint a)" × Unfit "((uint)a)" × Unfit "(()[]a)" × Unfit "()a"
+unfolding evaluation
+blank-or-name = (refl, refl, refl, refl, refl, refl, refl)
+
+component-or-suffix : Unfit "(uint12)" × Unfit "(bytes33)" × Unfit "(,)" × Unfit "(uint,)" × Unfit "(uint" × Unfit "())" × Unfit "()[+2]" × Unfit "()[18446744073709551616]"
+unfolding evaluation
+component-or-suffix = (refl, refl, refl, refl, refl, refl, refl, refl)
+
+-- "Where some beginning of the text has 33 more `(` than `)`, it gets 10 at the first such `(`"
+too-crowded : (outcome 1000 (kindOutput (ascii "(x((((((((((((((((((((((((((((((((")) ≡ refused 10 33) × (outcome 1000 (kindOutput (ascii "())))((((((((((((((((((((((((((((((((((((")) ≡ refused 10 40)
+unfolding evaluation
+too-crowded = (refl, refl)

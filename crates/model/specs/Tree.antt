@@ -1,6 +1,6 @@
 -- What a text says, as a tree; and its kinds and name, without what demand 3 forgets.
 -- Assumes nothing.
-use mathlib.Core.List.{List, [], _∷_}
+use mathlib.Core.List.{List, [], _∷_, _++_}
 use mathlib.Core.Option.{Option, none, some}
 use Prim.Native.Nat.{ℕ}
 use Rattle.kinds.specs.Kind.{Elementary, Suffix, Kind, Kinds, noKind, moreKinds, Prototype}
@@ -69,6 +69,25 @@ unfoldable mutual
   pub kindsOf : Fields → Kinds
   kindsOf noField = noKind
   kindsOf (moreFields f fs) = moreKinds (kindOf f) (kindsOf fs)
+
+-- the field of a kind, without a mark and names, as the kind call writes it: its suffixes, innermost first, and what they stand behind
+unfoldable pub suffixesOf : Kind → List Suffix
+suffixesOf (Kind.elementary e) = []
+suffixesOf (Kind.tuple ks) = []
+suffixesOf (Kind.array k s) = suffixesOf k ++ (s ∷ [])
+
+unfoldable mutual
+  pub baseOf : Kind → Base
+  baseOf (Kind.elementary e) = elementary e
+  baseOf (Kind.tuple ks) = tuple (fieldsOf ks)
+  baseOf (Kind.array k s) = baseOf k
+
+  pub fieldsOf : Kinds → Fields
+  fieldsOf noKind = noField
+  fieldsOf (moreKinds k ks) = moreFields (field unmarked [] (baseOf k) (suffixesOf k)) (fieldsOf ks)
+
+abbrev pub fieldOf : Kind → Field
+fieldOf k = field unmarked [] (baseOf k) (suffixesOf k)
 
 -- the name and kinds of a function, event or error; a constructor has none
 unfoldable pub nameKinds : Declaration → Option Prototype
