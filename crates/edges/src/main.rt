@@ -110,6 +110,7 @@ fn kinds() {
     row(Call::Kind, b"bytes0");
     row(Call::Kind, b"uint[0]");
     row(Call::Kind, b"uint[2][]");
+    row(Call::Kind, b"(uint)");
 }
 
 // Each refusal of the kind call but 20, at its edge where it has one.
@@ -124,7 +125,10 @@ fn kind_refusals() {
     row(Call::Kind, b"bytes+");
     row(Call::Kind, b"uin");
     row(Call::Kind, b" uint");
-    row(Call::Kind, b"(uint)");
+    let deepest = [b'('; 32];
+    let too_deep = [b'('; 33];
+    row(Call::Kind, &deepest);
+    row(Call::Kind, &too_deep);
 }
 
 // Which refusal comes first where two hold.

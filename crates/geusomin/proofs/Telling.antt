@@ -7,7 +7,7 @@ use Prim.Native.Nat.{ℕ}
 use native.Mathlib.Omega.{arith}
 use lib.ListN.{length}
 use Rattle.model.specs.declared.Refusal.{Refusal}
-use Rattle.model.specs.declared.Refusal.the-variants.{NoRoom, Eos, ExpectOpen, ExpectClose, ExpectDeclaration, ExpectKeyword, ExpectIdentifier, ExpectEnd, TooLong, NotUtf8, TooDeep, InvalidBitWidth, InvalidByteLength, Unknown, StartsWithTuple, NotWellFormed, WrongSort}
+use Rattle.model.specs.declared.Refusal.the-variants.{NoRoom, Eos, ExpectOpen, ExpectClose, ExpectDeclaration, ExpectKeyword, ExpectIdentifier, ExpectEnd, TooLong, NotUtf8, TooDeep, InvalidBitWidth, InvalidByteLength, Unknown, NotWellFormed, WrongSort}
 use Rattle.model.specs.declared.Answer.{Answer}
 use Rattle.model.specs.declared.Answer.the-variants.{Accepted, Refused}
 use Rattle.model.specs.Answer.{Output, writes, refuses, number, said, outcome, after, handed, refusalNumber}
@@ -49,7 +49,6 @@ number-is-not-0 TooDeep e = omega arith
 number-is-not-0 InvalidBitWidth e = omega arith
 number-is-not-0 InvalidByteLength e = omega arith
 number-is-not-0 Unknown e = omega arith
-number-is-not-0 StartsWithTuple e = omega arith
 number-is-not-0 NotWellFormed e = omega arith
 number-is-not-0 WrongSort e = omega arith
 number-is-not-0 NoRoom e = omega arith

@@ -9,7 +9,7 @@ use native.Mathlib.Omega.{arith}
 use lib.Dec.{ltb}
 use lib.ListN.{length, take}
 use Rattle.model.specs.declared.Refusal.{Refusal}
-use Rattle.model.specs.declared.Refusal.the-variants.{Eos, ExpectOpen, ExpectClose, ExpectDeclaration, ExpectKeyword, ExpectIdentifier, ExpectEnd, TooLong, NotUtf8, TooDeep, InvalidBitWidth, InvalidByteLength, Unknown, StartsWithTuple, NotWellFormed, WrongSort, NoRoom}
+use Rattle.model.specs.declared.Refusal.the-variants.{Eos, ExpectOpen, ExpectClose, ExpectDeclaration, ExpectKeyword, ExpectIdentifier, ExpectEnd, TooLong, NotUtf8, TooDeep, InvalidBitWidth, InvalidByteLength, Unknown, NotWellFormed, WrongSort, NoRoom}
 use Rattle.model.specs.declared.Keyword.{Keyword}
 use Rattle.model.specs.declared.Call.{Call}
 use Rattle.model.specs.declared.Answer.{Answer}
@@ -30,7 +30,7 @@ use Rattle.message.proofs.Wordings.{wording-none}
 -- the refusal that has a number
 refusalOf : ℕ → Refusal
 refusalOf n =
-    select (case 1 Eos ∷ case 2 ExpectOpen ∷ case 3 ExpectClose ∷ case 4 ExpectDeclaration ∷ case 5 ExpectKeyword ∷ case 6 ExpectIdentifier ∷ case 7 ExpectEnd ∷ case 8 TooLong ∷ case 9 NotUtf8 ∷ case 10 TooDeep ∷ case 11 InvalidBitWidth ∷ case 12 InvalidByteLength ∷ case 13 Unknown ∷ case 14 StartsWithTuple ∷ case 15 NotWellFormed ∷ case 16 WrongSort ∷ []) NoRoom n
+    select (case 1 Eos ∷ case 2 ExpectOpen ∷ case 3 ExpectClose ∷ case 4 ExpectDeclaration ∷ case 5 ExpectKeyword ∷ case 6 ExpectIdentifier ∷ case 7 ExpectEnd ∷ case 8 TooLong ∷ case 9 NotUtf8 ∷ case 10 TooDeep ∷ case 11 InvalidBitWidth ∷ case 12 InvalidByteLength ∷ case 13 Unknown ∷ case 15 NotWellFormed ∷ case 16 WrongSort ∷ []) NoRoom n
 
 refusal-of : (w : Refusal) → refusalOf (number w) ≡ w
 unfolding refusalOf number
@@ -47,7 +47,6 @@ refusal-of TooDeep = refl
 refusal-of InvalidBitWidth = refl
 refusal-of InvalidByteLength = refl
 refusal-of Unknown = refl
-refusal-of StartsWithTuple = refl
 refusal-of NotWellFormed = refl
 refusal-of WrongSort = refl
 refusal-of NoRoom = refl

@@ -334,7 +334,6 @@ fn wording(out: &mut [u8], w: Refusal, k: Sought) -> usize
         Refusal::InvalidBitWidth => 0,
         Refusal::InvalidByteLength => 0,
         Refusal::Unknown => 0,
-        Refusal::StartsWithTuple => 0,
         Refusal::NotWellFormed => 0,
         Refusal::WrongSort => 0,
         Refusal::NoRoom => 0,

@@ -22,5 +22,6 @@ pub mod Lengths
 pub mod Modifiers
 pub mod Lines
 pub mod KindReads
+pub mod Numbers
 pub mod Messages
 pub mod Demand

@@ -12,7 +12,7 @@ use borrow.Author.Tests.{ltb-false}
 use Rattle.kinds.specs.Bytes.{ascii}
 use Rattle.kinds.proofs.Decimal.{decimal-short}
 use Rattle.model.specs.declared.Refusal.{Refusal}
-use Rattle.model.specs.declared.Refusal.the-variants.{Eos, ExpectOpen, ExpectClose, ExpectDeclaration, ExpectKeyword, ExpectIdentifier, ExpectEnd, TooLong, NotUtf8, TooDeep, InvalidBitWidth, InvalidByteLength, Unknown, StartsWithTuple, NotWellFormed, WrongSort, NoRoom}
+use Rattle.model.specs.declared.Refusal.the-variants.{Eos, ExpectOpen, ExpectClose, ExpectDeclaration, ExpectKeyword, ExpectIdentifier, ExpectEnd, TooLong, NotUtf8, TooDeep, InvalidBitWidth, InvalidByteLength, Unknown, NotWellFormed, WrongSort, NoRoom}
 use Rattle.model.specs.declared.Keyword.{Keyword}
 use Rattle.model.specs.declared.Keyword.the-variants as key
 use Rattle.model.specs.declared.Call.{Call}
@@ -114,7 +114,6 @@ wording-short TooDeep k = tt
 wording-short InvalidBitWidth k = tt
 wording-short InvalidByteLength k = tt
 wording-short Unknown k = tt
-wording-short StartsWithTuple k = tt
 wording-short NotWellFormed k = tt
 wording-short WrongSort k = tt
 wording-short NoRoom k = tt

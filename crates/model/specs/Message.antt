@@ -9,7 +9,7 @@ use lib.ListN.{length, take, drop}
 use Rattle.kinds.specs.Bytes.{ascii, quote, backslash}
 use Rattle.kinds.specs.Decimal.{decimal}
 use Rattle.model.specs.declared.Refusal.{Refusal}
-use Rattle.model.specs.declared.Refusal.the-variants.{Eos, ExpectOpen, ExpectClose, ExpectDeclaration, ExpectKeyword, ExpectIdentifier, ExpectEnd, TooLong, NotUtf8, TooDeep, InvalidBitWidth, InvalidByteLength, Unknown, StartsWithTuple, NotWellFormed, WrongSort, NoRoom}
+use Rattle.model.specs.declared.Refusal.the-variants.{Eos, ExpectOpen, ExpectClose, ExpectDeclaration, ExpectKeyword, ExpectIdentifier, ExpectEnd, TooLong, NotUtf8, TooDeep, InvalidBitWidth, InvalidByteLength, Unknown, NotWellFormed, WrongSort, NoRoom}
 use Rattle.model.specs.declared.Keyword.{Keyword}
 use Rattle.model.specs.declared.Call.{Call}
 use Rattle.model.specs.Text.{span, one, isTail, validLength, part}
@@ -42,7 +42,6 @@ wording TooDeep k = none
 wording InvalidBitWidth k = none
 wording InvalidByteLength k = none
 wording Unknown k = none
-wording StartsWithTuple k = none
 wording NotWellFormed k = none
 wording WrongSort k = none
 wording NoRoom k = none

@@ -15,7 +15,6 @@ pub enum Refusal {
     InvalidBitWidth,
     InvalidByteLength,
     Unknown,
-    StartsWithTuple,
     NotWellFormed,
     WrongSort,
     NoRoom,

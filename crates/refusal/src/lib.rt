@@ -20,7 +20,6 @@ pub fn number(refusal: Refusal) -> u32
         Refusal::InvalidBitWidth => 11,
         Refusal::InvalidByteLength => 12,
         Refusal::Unknown => 13,
-        Refusal::StartsWithTuple => 14,
         Refusal::NotWellFormed => 15,
         Refusal::WrongSort => 16,
         Refusal::NoRoom => 20,

@@ -1,5 +1,5 @@
 use Rattle.model.specs.Message.{wording}
-use Rattle.model.specs.declared.Refusal.the-variants.{Eos, ExpectOpen, ExpectClose, ExpectDeclaration, ExpectKeyword, ExpectIdentifier, ExpectEnd, TooLong, NotUtf8, TooDeep, InvalidBitWidth, InvalidByteLength, Unknown, StartsWithTuple, NotWellFormed, WrongSort, NoRoom}
+use Rattle.model.specs.declared.Refusal.the-variants.{Eos, ExpectOpen, ExpectClose, ExpectDeclaration, ExpectKeyword, ExpectIdentifier, ExpectEnd, TooLong, NotUtf8, TooDeep, InvalidBitWidth, InvalidByteLength, Unknown, NotWellFormed, WrongSort, NoRoom}
 use Rattle.message.proofs.Wordings.{words, wordless}
 use mathlib.Core.Path.{refl}
 use native.Mathlib.Omega.{arith}
@@ -94,9 +94,6 @@ enum-told-15 c = search needs
 enum-told-16 : tie.Need-enum-told-16
 enum-told-16 c = search needs
 
-enum-told-17 : tie.Need-enum-told-17
-enum-told-17 c = search needs
-
 same-length : tie.Need-same-length
 same-length c = search needs
 
@@ -172,19 +169,15 @@ returns-13 c = wordless _ _ _ Unknown (c .enum-told13 .given .1) refl
 
 returns-14 : tie.Need-returns-14
 unfolding wording
-returns-14 c = wordless _ _ _ StartsWithTuple (c .enum-told14 .given .1) refl
+returns-14 c = wordless _ _ _ NotWellFormed (c .enum-told14 .given .1) refl
 
 returns-15 : tie.Need-returns-15
 unfolding wording
-returns-15 c = wordless _ _ _ NotWellFormed (c .enum-told15 .given .1) refl
+returns-15 c = wordless _ _ _ WrongSort (c .enum-told15 .given .1) refl
 
 returns-16 : tie.Need-returns-16
 unfolding wording
-returns-16 c = wordless _ _ _ WrongSort (c .enum-told16 .given .1) refl
-
-returns-17 : tie.Need-returns-17
-unfolding wording
-returns-17 c = wordless _ _ _ NoRoom (c .enum-told17 .given .1) refl
+returns-16 c = wordless _ _ _ NoRoom (c .enum-told16 .given .1) refl
 
 pub wording-spec : {M : Type 1} → statement M
 wording-spec =
@@ -219,7 +212,6 @@ wording-spec =
     enum-told-14
     enum-told-15
     enum-told-16
-    enum-told-17
     same-length
     returns
     same-length-2
@@ -242,5 +234,4 @@ wording-spec =
     returns-13
     returns-14
     returns-15
-    returns-16
-    returns-17)
+    returns-16)
