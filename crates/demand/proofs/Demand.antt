@@ -19,12 +19,12 @@ use Rattle.model.specs.declared.Answer.{Answer}
 use Rattle.model.specs.Tree.{Field, Declaration, nameKinds}
 use Rattle.model.specs.Parser.{got}
 use Rattle.model.specs.Reading.{longestText, parse}
+use Rattle.model.specs.Layout.{Bytes}
 use Rattle.model.specs.Record.{encode, decode, decodeLone, wellFormed}
 use Rattle.model.specs.Line.{keywordIn, canonicalText, fieldText, line}
 use Rattle.model.specs.Answer.{accepted, refused, Output, writes, needed, said, outcome, after, handed, refusalNumber}
 use Rattle.model.specs.Calls.{written, readOutput, kindOutput, canonicalOutput, kindTextOutput, AcceptedAs, AllAccepted}
 use Rattle.model.specs.Calls as calls
-use Rattle.model.proofs.Pieces.{Bytes}
 use Rattle.model.proofs.Records.{decode-exactly, encode-bytes}
 use Rattle.model.proofs.Sound.{read-well-formed}
 use Rattle.model.proofs.KindReads.{kind-back}

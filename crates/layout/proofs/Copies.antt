@@ -7,8 +7,8 @@ use native.Mathlib.Omega.{arith}
 use native.Mathlib.Nat.{pow-succ', mul-assoc, add-assoc}
 use lib.ListN.{length, take, drop, getD, length-drop}
 use lib.Seq.{paste, length-paste, take-paste, drop-paste, take-append-add, take-take, take-add, length-take-le, drop-drop}
-use Rattle.model.specs.Layout.{littleEndian, leValue}
-use Rattle.model.proofs.Pieces.{Bytes, bytes-take, bytes-drop, le-written}
+use Rattle.model.specs.Layout.{littleEndian, leValue, Bytes}
+use Rattle.model.proofs.Pieces.{bytes-take, bytes-drop, le-written}
 use Rattle.layout.specs.Buffer.{put}
 use Rattle.layout.proofs.Puts.{Copied, copy-start, copy-end}
 

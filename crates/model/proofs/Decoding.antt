@@ -12,9 +12,9 @@ use lib.ListN.{length, take, drop, length-append, take-append-drop}
 use lib.Seq.{take-at, drop-at, length-take-le}
 use borrow.Author.Tests.{leb-true, le-leb, eqb-true, eq-eqb, ne-eqb}
 use Rattle.kinds.proofs.Logic.{both}
-use Rattle.model.specs.Layout.{littleEndian, leValue, recordOf, Piece, piece, noPiece, pieceOf}
+use Rattle.model.specs.Layout.{littleEndian, leValue, recordOf, Piece, piece, noPiece, pieceOf, Bytes}
 use Rattle.model.specs.Record.{given, onOption, when, ended, onPiece, ofKind, wholly, fronted, Case, case, select, eachBy, eachIn, each}
-use Rattle.model.proofs.Pieces.{Bytes, bytes-take, bytes-drop, le-length, le-read, le-written, le-below, record-length, piece-read, Begins, piece-written}
+use Rattle.model.proofs.Pieces.{bytes-take, bytes-drop, le-length, le-read, le-written, le-below, record-length, piece-read, Begins, piece-written}
 
 -- a number that is none of the cases
 module _ {A : Type 0} where

@@ -14,11 +14,11 @@ use Rattle.kinds.proofs.Joined.{joined-agree}
 use Rattle.model.specs.declared.Call.the-variants as call
 use Rattle.model.specs.Tree.{Declaration, nameKinds}
 use Rattle.model.specs.Reading.{longestText}
+use Rattle.model.specs.Layout.{Bytes}
 use Rattle.model.specs.Record.{encode, decode, wellFormed}
 use Rattle.model.specs.Line.{keywordIn, canonicalText, nameOf, line}
 use Rattle.model.specs.Answer.{writes}
 use Rattle.model.specs.Calls.{written, readOutput, canonicalOutput, nameOutput, AllAccepted, no-text, one-text, SameLine}
-use Rattle.model.proofs.Pieces.{Bytes}
 use Rattle.model.proofs.Records.{decode-exactly, encode-bytes}
 use Rattle.model.proofs.Sound.{accepted-proper, read-well-formed}
 use Rattle.model.proofs.Lines.{line-reads}

@@ -14,12 +14,12 @@ use Rattle.model.specs.declared.Sort.the-variants.{Plain}
 use Rattle.model.specs.Tree.{Field, kindOf, fieldOf}
 use Rattle.model.specs.Parser.{got}
 use Rattle.model.specs.Reading.{deepest, longestText, admit}
+use Rattle.model.specs.Layout.{Bytes}
 use Rattle.model.specs.Record.{encodeField, isField, wellFormedField, decodeLone}
 use Rattle.model.specs.Line.{fieldText}
 use Rattle.model.specs.Answer.{writes}
 use Rattle.model.specs.Calls.{written, readKind, kindOutput, kindTextOutput, SameKind}
 use Rattle.model.specs.Written.{fits, allFit}
-use Rattle.model.proofs.Pieces.{Bytes}
 use Rattle.model.proofs.Records.{decode-lone-exactly, encode-field-bytes}
 use Rattle.model.proofs.Sound.{field-is-kind, kind-well-formed}
 use Rattle.model.proofs.Spelling.{kind-field, kind-itself, kind-call-admits}

@@ -19,14 +19,13 @@ use Rattle.model.specs.declared.Sort.{Sort}
 use Rattle.model.specs.declared.Sort.the-variants.{Plain, Parameter, Event}
 use Rattle.model.specs.Tree.{Base, elementary, tuple, Field, field, Fields, noField, moreFields, Declaration, arrays, baseKind, kindOf, kindsOf, nameKinds}
 use Rattle.model.specs.KindText.{longest}
-use Rattle.model.specs.Layout.{littleEndian}
+use Rattle.model.specs.Layout.{littleEndian, Bytes}
 use Rattle.model.specs.Record.{encodeElementary, encodeSuffix, encodeSuffixes, encodeName, encodeBase, encodeField, encodeFields, encodeList, encode, isSuffix, isMark, isFieldName, isBase, isField, areFields, isDeclaration, wellFormed, wellFormedField, longestRecord, decode, decodeLone}
 use Rattle.model.specs.Reading.{marks, deepest}
 use Rattle.model.specs.Line.{canonicalText, signatureText, fieldText}
 use Rattle.model.specs.Answer.{Output, writes, refuses}
 use Rattle.model.specs.Calls.{canonicalOutput, signatureOutput, kindTextOutput, ofRecord, orWrongSort}
 use Rattle.model.proofs.Bounds.{record-size, field-size}
-use Rattle.model.proofs.Pieces.{Bytes}
 use Rattle.model.proofs.Records.{decode-exactly, decode-lone-exactly}
 
 -- a number of at most 999 has three digits

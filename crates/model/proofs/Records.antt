@@ -18,10 +18,10 @@ use Rattle.model.specs.declared.Sort.the-variants.{Plain, Parameter, Eve
 use Rattle.model.specs.Tree.{Base, elementary, tuple, Field, field, Fields, noField, moreFields, Declaration}
 use Rattle.model.specs.KindText.{longest}
 use Rattle.model.specs.Reading.{canSpecifyLocation, marks, deepest}
-use Rattle.model.specs.Layout.{littleEndian, leValue, recordOf, Piece, piece, noPiece, pieceOf}
+use Rattle.model.specs.Layout.{littleEndian, leValue, recordOf, Piece, piece, noPiece, pieceOf, Bytes}
 use Rattle.model.specs.Record.{encodeElementary, encodeSuffix, encodeSuffixes, encodeName, encodeBase, encodeField, encodeFields, encodeList, encode, isFieldName, isSuffix, isMark, isBase, isField, areFields, isDeclaration, longestRecord, wellFormed, wellFormedField, onOption, when, ended, onPiece, case, elementaryCases, decodeElementary, suffixCases, decodeSuffix, baseFrom, each, decodeSuffixes, fieldFrom, tupleFrom, decodeField, decodeFields, listFrom, nameFrom, functionFrom, constructorFrom, eventFrom, errorFrom, decodeDeclaration, whole, decode, decodeLone}
 use Rattle.model.proofs.Marks.{either, mark-fits}
-use Rattle.model.proofs.Pieces.{Bytes, bytes-nil, bytes-cons, bytes-append, le-length, le-bytes, record-length, record-bytes}
+use Rattle.model.proofs.Pieces.{bytes-nil, bytes-cons, bytes-append, le-length, le-bytes, record-length, record-bytes}
 use Rattle.model.proofs.Decoding.{Sound, Written, Reads, Spells, Part, when-some, given-some, on-some, ended-some, fronted-some, kind-some, number-to, fronted-to, kind-to, reads-part, Lists, each-spells, Sounds, select-sound, number-sound, bare-sound, alone-to, alone-exactly, alone-injective}
 
 -- widths and byte lengths fit two bytes

@@ -2,9 +2,9 @@
 -- Assumes nothing.
 use mathlib.Core.Bool.{true, false, _&&_}
 use mathlib.Core.List.{List, [], _∷_, _++_}
-use Prim.Native.Nat.{ℕ, zero, suc, _+_, _*_, _-_, _/_, _%_}
+use Prim.Native.Nat.{ℕ, zero, suc, _+_, _*_, _-_, _/_, _%_, _<_}
 use lib.Dec.{leb}
-use lib.ListN.{length, take, drop}
+use lib.ListN.{length, take, drop, getD}
 
 -- a number in n bytes, "little-endian"
 unfoldable pub littleEndian : ℕ → ℕ → List ℕ
@@ -32,3 +32,7 @@ pieceOf w b = let n = leValue (take w b) in
       | true ↦ piece (leValue (take 2 (drop w b))) (take (n - (w + 2)) (drop (w + 2) b)) (drop n b)
       | false ↦ noPiece
     ]
+
+-- every number of a list is a byte; 0 stands past the end
+unfoldable pub Bytes : List ℕ → Type 0
+Bytes b = (i : ℕ) → getD b i 0 < 256

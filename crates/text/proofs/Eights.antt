@@ -14,10 +14,10 @@ use lib.Bits.{bitAnd, bitOr, and-block, or-block}
 use borrow.Author.Tests.{le-leb, leb-true, ltb-true, eqb-true}
 use Rattle.kinds.specs.Bytes.{all, between, isLetter}
 use Rattle.kinds.proofs.Logic.{left, right, all-weaken}
-use Rattle.model.specs.Layout.{littleEndian, leValue}
+use Rattle.model.specs.Layout.{littleEndian, leValue, Bytes}
 use Rattle.model.specs.Text.{spanFrom, span, one}
 use Rattle.model.proofs.Scans.{span-le}
-use Rattle.model.proofs.Pieces.{Bytes, bytes-take, bytes-drop, le-length, le-bytes, le-read, le-written}
+use Rattle.model.proofs.Pieces.{bytes-take, bytes-drop, le-length, le-bytes, le-read, le-written}
 use Rattle.text.specs.Found.{isAlphabetic, isPlain, flag, flags}
 
 -- a test of a byte, made at each number below a limit
