@@ -4,7 +4,7 @@
 Usage: tests/oracle/tables.py [--check]     ORACLE names the program that build.sh builds
 A row is a call, the room that it is lent and an input. Numbers, positions and lines are written here as document 02's
 tables have them. A record is the Rust's, of a text that document 02 says to be read the same: its bytes come from the
-oracle. With --check the files are compared instead of written; the exit status is then 1 if they differ.
+oracle. An input is a text, or bytes where it is no UTF-8. With --check the files are compared instead of written; the exit status is then 1 if they differ.
 """
 import os
 import pathlib
@@ -32,6 +32,25 @@ class As:
 
     def __init__(self, text, call="general"):
         self.asked = f"{call} {text.encode().hex()}"
+
+    def part(self, record):
+        """What of that record is due."""
+        return record
+
+
+class Kind(As):
+    """The field that the Rust reads of a kind text in a list; by itself a tuple loses its last component there."""
+
+    FRONT = 6 + 7 + 6  # the error's head, its name `e`, its list's head
+
+    def __init__(self, text):
+        super().__init__(f"error e({text})", "error")
+
+    def part(self, record):
+        field = record[self.FRONT:]
+        if int.from_bytes(field[:4], "little") != len(field):
+            sys.exit(f"the Rust does not read one field: {self.asked}")
+        return field
 
 
 # Order 2: visibility words.
@@ -69,12 +88,50 @@ def visibility():
     yield "message", AMPLE, f + " external external", line('expected end of declaration at position 22("... external |external")')
 
 
-TABLES = (visibility,)
+# Order 3: tuples in the kind call.
+
+def kind_tuples():
+    for text in (
+        "()", "(uint)", "(uint)[2][][0]", "((uint)[2],bool[])[3]",
+        "(" * 32 + ")" * 32, "(" * 32 + "uint" + ")" * 32, "(" * 32 + ")[]" * 32,
+        "(uint[+2])", "(uint08)", "(uint)[02]",  # until order 7
+    ):
+        yield "kind", AMPLE, text, Kind(text)
+    for text in (
+        "(uint,)", "(,uint)", "([])", "(uint)[+2]", "(uint)[2 ]", "(uint)[18446744073709551616]", "(uint)[2", "()()", "(uint))",
+        "(bytes33)", "(uint12)", "(uint a)", "((uint)a)", "(uint, bool)", "(uint) ", "(string memory)", "(é)",
+        "(uint),bool", "(uint),(bool)",
+    ):
+        yield "kind", AMPLE, text, no(13, 0)
+    for text, answer in (
+        ("(" * 32, no(13, 0)), ("(" * 33, no(10, 32)), ("(x" + "(" * 32, no(10, 33)), ("(é" + "(" * 32, no(10, 34)),
+        ("()" + "(" * 33, no(10, 34)), ("())))" + "(" * 36, no(10, 40)), ("())))" + "(" * 35, no(13, 0)),
+        (b"(\xff", no(9, 1)), (b"(" * 33 + b"\xff", no(9, 33)), ("(" * 4097, no(8, 0)), ("(" * 4096, no(10, 32)),
+        (" (uint)", no(13, 0)), ("x" + "(" * 33, no(13, 0)), ("uint(", no(11, 0)),
+    ):
+        yield "kind", AMPLE, text, answer
+    yield "kind", 20, "()", Kind("()")
+    yield "kind", 19, "()", no(20, 0)
+    yield "kind", 0, "(uint)x", no(13, 0)
+    yield "kind", 0, "(" * 33, no(10, 32)
+    for text, written in (
+        ("()", "()"), ("(uint)[2][][0]", "(uint256)[2][][0]"), ("((int)[2],bool[])[3]", "((int256)[2],bool[])[3]"), ("(uint)[02]", "(uint256)[2]"),
+    ):
+        yield "kind_text", AMPLE, text, line(written)
+
+
+TABLES = (visibility, kind_tuples)
+
+
+def as_bytes(text):
+    return text if isinstance(text, bytes) else text.encode()
 
 
 def escaped(text):
-    """Printable ASCII as it is but for the backslash, any other byte as a backslash and two hex digits."""
-    return "".join(chr(b) if 32 <= b < 127 and b != 92 else f"\\{b:02x}" for b in text.encode())
+    """Printable ASCII as it is, any other byte, the backslash, and a space at either end as a backslash and two hex digits."""
+    given = as_bytes(text)
+    plain = range(len(given) - len(given.lstrip(b" ")), len(given.rstrip(b" ")))
+    return "".join(chr(b) if at in plain and 32 <= b < 127 and b != 92 else f"\\{b:02x}" for at, b in enumerate(given))
 
 
 def answers(rows):
@@ -89,7 +146,8 @@ def answers(rows):
         outcome, record, *_ = next(replies).split(" ")
         if outcome != "ok":
             sys.exit(f"the Rust refuses what is said to be read: {said.asked}")
-        yield f"ok {len(record) // 2} {record}"
+        due = said.part(bytes.fromhex(record))
+        yield f"ok {len(due)} {due.hex()}"
 
 
 def main():
