@@ -1,5 +1,5 @@
 //! What document 01 and the orders say, where the Rust original has no say: messages whose context
-//! cuts a character, and which records are well formed.
+//! cuts a character, which records are well formed, and which kind texts have too many brackets open.
 use crate::marks::{INDEXED, LOCATIONS, UNMARKED};
 
 // --- messages -------------------------------------------------------------------------
@@ -69,6 +69,20 @@ pub fn copied(message: &str) -> String {
         rest = behind;
     }
     out + rest
+}
+
+// --- brackets -------------------------------------------------------------------------
+
+const MOST_OPEN: i32 = 32;
+
+/// Order 3: where some beginning of a kind text has 33 more `(` than `)`, the place of the first such
+/// `(`. The bytes are counted, whatever they stand for.
+pub fn crowded(text: &[u8]) -> Option<usize> {
+    let mut open = 0;
+    text.iter().position(|byte| {
+        open += (*byte == b'(') as i32 - (*byte == b')') as i32;
+        open > MOST_OPEN
+    })
 }
 
 // --- records --------------------------------------------------------------------------

@@ -22,6 +22,8 @@ enum Rule {
     NotUtf8,
     TooDeep,
     KindTuple,
+    KindUnfit,
+    KindCrowded,
     Place,
     Visibility,
     Panic,
@@ -34,7 +36,9 @@ impl Rule {
             Rule::TooLong => "text over 4,096 bytes: 8",
             Rule::NotUtf8 => "text not UTF-8: 9 where the Rust's caller stops",
             Rule::TooDeep => "33rd open tuple: 10 at its bracket",
-            Rule::KindTuple => "kind text starts with a bracket: 14",
+            Rule::KindTuple => "kind text starts with a bracket: read as a list's only field",
+            Rule::KindUnfit => "kind text starts with a bracket and is no such field: 13",
+            Rule::KindCrowded => "kind text starts with a bracket, 33 more open than close: 10",
             Rule::Place => "place word: mark 2 or 3, which the Rust forgets",
             Rule::Visibility => "visibility word, which the Rust refuses: as with spaces for it",
             Rule::Panic => "context cuts a character, the Rust panics: error as elsewhere",
@@ -57,6 +61,12 @@ const SHOWN: usize = 10;
 /// Room enough for every record.
 const LONGEST: usize = 40_960;
 
+/// The longest text that is read.
+const MOST_BYTES: usize = 4096;
+
+/// The place of the kind-text call in calls::WRITERS.
+const KIND_TEXT: usize = 2;
+
 #[derive(Default)]
 struct Compare {
     buffer: Vec<u8>,
@@ -66,6 +76,7 @@ struct Compare {
     asked: usize,
     unlisted: usize,
     records: usize,
+    again: usize,
 }
 
 impl Compare {
@@ -141,7 +152,7 @@ impl Compare {
         let text = std::str::from_utf8(bytes).map_err(|e| e.valid_up_to());
         for place in 0..READERS.len() {
             match text {
-                _ if bytes.len() > 4096 => self.refused(place, bytes, Rule::TooLong, (8, 0)),
+                _ if bytes.len() > MOST_BYTES => self.refused(place, bytes, Rule::TooLong, (8, 0)),
                 Err(valid) => self.refused(place, bytes, Rule::NotUtf8, (9, valid)),
                 Ok(text) => self.reading(place, text, record),
             }
@@ -156,11 +167,13 @@ impl Compare {
     }
 
     /// One reading call and its message call, by the Rust's answer to the text or, if a visibility word
-    /// stands where it may, to the text with spaces for that word.
+    /// stands where it may, to the text with spaces for that word. Of a kind text that starts with `(` the
+    /// brackets are counted first.
     fn reading(&mut self, place: usize, text: &str, record: &mut Vec<u8>) {
         let (call, bytes) = (&READERS[place], text.as_bytes());
-        if place == KIND && text.starts_with('(') {
-            return self.refused(place, bytes, Rule::KindTuple, (14, 0));
+        let bracketed = place == KIND && text.starts_with('(');
+        if let Some(position) = document::crowded(bytes).filter(|_| bracketed) {
+            return self.refused(place, bytes, Rule::KindCrowded, (10, position));
         }
         let spaced = original::spaced(place, text);
         if spaced.is_some() {
@@ -170,7 +183,12 @@ impl Compare {
         if let Some(position) = original::too_deep(place, known) {
             return self.refused(place, bytes, Rule::TooDeep, (10, position));
         }
-        match original::read(place, known) {
+        let said = original::read(place, known);
+        if bracketed && !original::agrees(text, &said) {
+            let is_read = matches!(said, Said::Read { .. });
+            self.listed(if is_read { Rule::KindTuple } else { Rule::KindUnfit });
+        }
+        match said {
             Said::Read { record: read, texts } => {
                 let Some(read) = self.kept(call, text, read) else { return };
                 self.check(call, bytes, &Wanted::Output(&read));
@@ -190,6 +208,15 @@ impl Compare {
                 self.check(call, bytes, &Wanted::Refusal(number, position));
                 self.message(place, bytes, &document::message(place, text, number, position));
             }
+        }
+    }
+
+    /// Order 3: the text of a field's kind, as it was written, is read as that kind.
+    fn read_again(&mut self, text: &[u8], bare: &[u8]) {
+        if text.len() <= MOST_BYTES {
+            self.again += 1;
+            self.check(&READERS[KIND], text, &Wanted::Output(bare));
+            self.check(&WRITERS[KIND_TEXT], bare, &Wanted::Output(text));
         }
     }
 
@@ -222,11 +249,12 @@ impl Compare {
     }
 
     /// A text whose answer is written down.
-    fn row(&mut self, call: &Call, text: &str, due: &Due) {
-        let (answer, written) = self.written(call, text.as_bytes(), LONGEST);
+    fn row(&mut self, call: &Call, text: &[u8], due: &Due) {
+        let (answer, written) = self.written(call, text, LONGEST);
         if !due.is_met(answer, &written) {
-            let what = || format!("answer {answer:?}, not what is written down for {text:?}");
-            self.differ(call.name, text.as_bytes(), what);
+            let shown = String::from_utf8_lossy(text);
+            let what = || format!("answer {answer:?}, not what is written down for {shown:?}");
+            self.differ(call.name, text, what);
         }
     }
 
@@ -267,10 +295,17 @@ impl Compare {
             let wanted = match text {
                 Some(text) => Wanted::Output(text),
                 // Kind text of a declaration; canonical and signature of a field.
-                None if field || place == 2 => Wanted::Refusal(15, 0),
+                None if field || place == KIND_TEXT => Wanted::Refusal(15, 0),
                 None => Wanted::Refusal(16, 0),
             };
             self.check(call, record, &wanted);
+        }
+        if let Some(text) = &texts.kind {
+            self.read_again(text, record);
+        }
+        for lone in &texts.tuples {
+            self.check(&WRITERS[KIND_TEXT], &lone.record, &Wanted::Output(&lone.text));
+            self.read_again(&lone.text, &lone.bare);
         }
     }
 
@@ -297,6 +332,20 @@ impl Compare {
         };
         for (call, wanted) in WRITERS.iter().zip(&wanted) {
             self.check(call, record, wanted);
+        }
+        match &formed {
+            Some(f) if f.kind == document::FIELD => self.kind_again(&f.canonical),
+            _ => (),
+        }
+    }
+
+    /// The text of a made-up field's kind, which the Rust reads as it is.
+    fn kind_again(&mut self, text: &[u8]) {
+        match original::read(KIND, std::str::from_utf8(text).unwrap()) {
+            Said::Read { record, texts } if texts.kind.as_deref() == Some(text) => {
+                self.read_again(text, &record);
+            }
+            _ => self.differ("kind", text, || "the Rust does not read it as it stands".to_string()),
         }
     }
 
@@ -341,7 +390,10 @@ fn run(count: usize, seed: u64) -> bool {
     records::marked(|record| compare.record(record));
     texts::located(&mut |text, mark, name| compare.located(text, mark, name));
     for (text, due) in &rows::VISIBILITY {
-        compare.row(&READERS[original::GENERAL], text, due);
+        compare.row(&READERS[original::GENERAL], text.as_bytes(), due);
+    }
+    for (text, due) in &rows::kind_tuples() {
+        compare.row(&READERS[KIND], text, due);
     }
     texts::each(count, seed, |text| {
         texts += 1;
@@ -367,6 +419,7 @@ fn run(count: usize, seed: u64) -> bool {
     let calls = READERS.len() + WRITERS.len() + MESSAGES.len();
     let (asked, records) = (compare.asked, compare.records);
     println!("{calls} functions called {asked} times; {records} records made up; seed {seed}");
+    println!("{} kind texts of fields read again", compare.again);
     println!("compare: {texts} texts, {} unlisted differences", compare.unlisted);
     compare.unlisted == 0
 }

@@ -21,13 +21,22 @@ pub enum Said {
     Panicked { number: u32, position: usize },
 }
 
-/// Texts of a record; none where the call on it is refused.
+/// Texts of a record; none where the call on it is refused. And its fields that have a tuple, at every
+/// depth.
 #[derive(Default)]
 pub struct Texts {
     pub canonical: Option<Vec<u8>>,
     pub signature: Option<Vec<u8>>,
     pub kind: Option<Vec<u8>>,
     pub name: Option<Vec<u8>>,
+    pub tuples: Vec<Lone>,
+}
+
+/// A field by itself: its record, its kind's text, and the record of that kind alone, without names.
+pub struct Lone {
+    pub record: Vec<u8>,
+    pub text: Vec<u8>,
+    pub bare: Vec<u8>,
 }
 
 // --- records, by the layout of document 01 ------------------------------------------
@@ -60,11 +69,13 @@ fn kind(out: &mut Vec<u8>, k: &ValueKind, components: Option<&[Field]>) {
         ValueKind::Function => record(out, 6, |_| ()),
         ValueKind::Bytes => record(out, 7, |_| ()),
         ValueKind::String => record(out, 8, |_| ()),
-        ValueKind::Tuple(kinds) => {
-            let fields = components.expect("a tuple has components");
-            assert!(fields.iter().map(|f| &f.kind).eq(kinds));
-            record(out, 9, |out| fields.iter().for_each(|f| field(out, f, 0)));
-        }
+        ValueKind::Tuple(kinds) => match components {
+            Some(fields) => {
+                assert!(fields.iter().map(|f| &f.kind).eq(kinds));
+                record(out, 9, |out| fields.iter().for_each(|f| field(out, f, 0)));
+            }
+            None => record(out, 9, |out| kinds.iter().for_each(|k| bare(out, k))),
+        },
         ValueKind::FixedArray(n, inner) => {
             kind(out, inner, components);
             record(out, 0xA, |out| out.extend((*n as u64).to_le_bytes()));
@@ -81,6 +92,15 @@ fn field(out: &mut Vec<u8>, f: &Field, mark: u16) {
         number(out, mark);
         name(out, &f.name);
         kind(out, &f.kind, f.components.as_deref());
+    });
+}
+
+/// A kind by itself: a field with mark 0 and no names, nor any in its tuples.
+fn bare(out: &mut Vec<u8>, k: &ValueKind) {
+    record(out, 0x10, |out| {
+        number(out, 0);
+        name(out, "");
+        kind(out, k, None);
     });
 }
 
@@ -137,7 +157,38 @@ fn texts(descriptor: &Descriptor) -> Texts {
         _ => None,
     };
     let name = Some(name.as_bytes().to_vec());
-    Texts { canonical: Some(canonical.into_bytes()), signature, kind: None, name }
+    Texts { canonical: Some(canonical.into_bytes()), signature, kind: None, name, tuples: vec![] }
+}
+
+/// The fields of a declaration's own lists.
+fn own_fields(descriptor: &Descriptor) -> Vec<&Field> {
+    match descriptor {
+        Descriptor::Function(d) => d.inputs.iter().chain(&d.outputs).map(|p| &p.field).collect(),
+        Descriptor::Constructor(d) => d.inputs.iter().map(|p| &p.field).collect(),
+        Descriptor::Event(d) => d.inputs.iter().map(|f| &f.field).collect(),
+        Descriptor::Error(d) => d.inputs.iter().collect(),
+        _ => unreachable!("no text reads as this"),
+    }
+}
+
+fn lone(f: &Field) -> Lone {
+    let (mut record, mut alone) = (vec![], vec![]);
+    field(&mut record, f, 0);
+    bare(&mut alone, &f.kind);
+    Lone { record, text: f.kind.to_string().into_bytes(), bare: alone }
+}
+
+/// The fields that have a tuple, and those within it; of several that are the same, one.
+fn tuples(fields: Vec<&Field>, out: &mut Vec<Lone>) {
+    for f in fields {
+        if let Some(components) = &f.components {
+            let lone = lone(f);
+            if out.iter().all(|other| other.record != lone.record) {
+                out.push(lone);
+                tuples(components.iter().collect(), out);
+            }
+        }
+    }
 }
 
 // --- calls ----------------------------------------------------------------------------
@@ -175,10 +226,14 @@ fn refusal(debug: &str) -> (u32, usize) {
 
 pub fn read(call: usize, text: &str) -> Said {
     if call == KIND {
-        return read_kind(text);
+        return if text.starts_with('(') { read_tuple(text) } else { read_kind(text) };
     }
     match catch_unwind(AssertUnwindSafe(|| parse!(plain, call, text))) {
-        Ok(Ok(d)) => Said::Read { record: encode(&d), texts: texts(&d) },
+        Ok(Ok(d)) => {
+            let mut texts = texts(&d);
+            tuples(own_fields(&d), &mut texts.tuples);
+            Said::Read { record: encode(&d), texts }
+        }
         Ok(Err(e)) => refused(e),
         Err(_) => {
             let (number, position) = refusal(&format!("{:?}", parse!(marked, call, text).unwrap_err()));
@@ -192,21 +247,67 @@ fn refused(e: ParseError) -> Said {
     Said::Refused { number, position, message: e.to_string() }
 }
 
+/// What the original's own reader of kinds says.
+fn own_kind(text: &str) -> Result<ValueKind, u32> {
+    text.parse().map_err(|e| match e {
+        ParseValueKindError::InvalidBitWidth => 11,
+        ParseValueKindError::InvalidByteLength => 12,
+        _ => UNKNOWN,
+    })
+}
+
 fn read_kind(text: &str) -> Said {
-    let number = match text.parse::<ValueKind>() {
+    match own_kind(text) {
         Ok(kind) => {
             let (name, components, internal_type) = (String::new(), None, None);
-            let text = kind.to_string().into_bytes();
-            let mut record = vec![];
-            field(&mut record, &Field { name, kind, components, internal_type }, 0);
-            let texts = Texts { kind: Some(text), name: Some(vec![]), ..Texts::default() };
-            return Said::Read { record, texts };
+            read_field(&Field { name, kind, components, internal_type })
         }
-        Err(ParseValueKindError::InvalidBitWidth) => 11,
-        Err(ParseValueKindError::InvalidByteLength) => 12,
-        Err(_) => 13,
-    };
+        Err(number) => no_kind(number),
+    }
+}
+
+fn read_field(f: &Field) -> Said {
+    let Lone { record, text, .. } = lone(f);
+    Said::Read { record, texts: Texts { kind: Some(text), name: Some(vec![]), ..Texts::default() } }
+}
+
+fn no_kind(number: u32) -> Said {
     Said::Refused { number, position: 0, message: String::new() }
+}
+
+// --- order 3: kind texts that start with a bracket ----------------------------------------
+
+/// The refusal of what is no kind.
+const UNKNOWN: u32 = 13;
+
+fn is_nameless(f: &Field) -> bool {
+    f.name.is_empty() && f.components.iter().flatten().all(is_nameless)
+}
+
+/// The one field of an error's list that is this text, without blanks and names. The list's bracket is
+/// the last character, behind which there is no room for more, so the list is the text and no less.
+fn only_field(text: &str) -> Option<Field> {
+    let around = format!("error e({text})");
+    // The original panics only where it refuses.
+    let read = catch_unwind(AssertUnwindSafe(|| ErrorDescriptor::parse_declaration(&around)));
+    let mut fields = read.ok()?.ok()?.inputs;
+    let only = fields.pop().filter(|f| fields.is_empty() && is_nameless(f))?;
+    (!text.contains(char::is_whitespace)).then_some(only)
+}
+
+/// A kind text that starts with `(`, by the original's reader of lists; what it does not read so is no
+/// kind, whatever is wrong with it.
+fn read_tuple(text: &str) -> Said {
+    only_field(text).map_or_else(|| no_kind(UNKNOWN), |f| read_field(&f))
+}
+
+/// Whether the original's own reader of kinds says the same: the same kind, or the same number.
+pub fn agrees(text: &str, said: &Said) -> bool {
+    match (own_kind(text), said) {
+        (Ok(kind), Said::Read { texts, .. }) => texts.kind == Some(kind.to_string().into_bytes()),
+        (Err(own), Said::Refused { number, .. }) => own == *number,
+        _ => false,
+    }
 }
 
 /// Order 2's words, which the original does not know.

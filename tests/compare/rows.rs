@@ -1,15 +1,18 @@
 //! Texts with the answers that the orders give them, written down by hand: a source beside the Rust.
 use crate::calls::Answer;
-use crate::document::{FUNCTION, LENGTH};
+use crate::document::{FIELD, FUNCTION, HEAD, LENGTH, NAME};
+use crate::marks::UNMARKED;
 
 /// What is due of a call.
 pub enum Due {
     /// A function's record with this mutability.
     Stated(u16),
+    /// A field's record of so many bytes, with mark 0 and an empty name.
+    Kind(usize),
     /// A refusal's number and position.
     Refused(u32, usize),
 }
-use Due::{Refused, Stated};
+use Due::{Kind, Refused, Stated};
 
 impl Due {
     /// Whether this was answered, and written where there is something to write.
@@ -18,6 +21,11 @@ impl Due {
             Stated(mutability) => {
                 let front = [FUNCTION.to_le_bytes(), mutability.to_le_bytes()].concat();
                 answer.0 == 0 && written[LENGTH..].starts_with(&front)
+            }
+            Kind(length) => {
+                let empty = [&(HEAD as u32).to_le_bytes()[..], &NAME.to_le_bytes()].concat();
+                let front = [&FIELD.to_le_bytes()[..], &UNMARKED.to_le_bytes(), &empty].concat();
+                answer == (0, length) && written[LENGTH..].starts_with(&front)
             }
             Refused(number, position) => answer == (number, position),
         }
@@ -55,3 +63,40 @@ pub const VISIBILITY: [(&str, Due); 23] = [
     ("function f() external returns", Refused(1, 29)),
     ("function f() external returns (uin)", Refused(3, 31)),
 ];
+
+/// Order 3: texts for the kind call, most of which start with a bracket.
+pub fn kind_tuples() -> Vec<(Vec<u8>, Due)> {
+    let open = |count| "(".repeat(count);
+    let deepest = |inside| [open(32).as_str(), inside, &")".repeat(32)].concat();
+    let mut rows: Vec<(Vec<u8>, Due)> = vec![
+        ("()".into(), Kind(20)),
+        ("(uint)".into(), Kind(42)),
+        ("(uint)[2][][0]".into(), Kind(42 + 14 + 6 + 14)),
+        ("((uint)[2],bool[])[3]".into(), Kind(20 + (42 + 14) + (20 + 6) + 14)),
+        (deepest("").into(), Kind(32 * 20)),
+        (deepest("uint").into(), Kind(32 * 20 + 22)),
+        ("(uint[+2])".into(), Kind(42 + 14)),
+        ("(uint08)".into(), Kind(42)),
+        ("(uint)[02]".into(), Kind(42 + 14)),
+        (open(32).into(), Refused(13, 0)),
+        (open(33).into(), Refused(10, 32)),
+        (["(x", &open(32)].concat().into(), Refused(10, 33)),
+        (["(é", &open(32)].concat().into(), Refused(10, 34)),
+        (["()", &open(33)].concat().into(), Refused(10, 34)),
+        (["())))", &open(36)].concat().into(), Refused(10, 40)),
+        (["())))", &open(35)].concat().into(), Refused(13, 0)),
+        (b"(\xff".to_vec(), Refused(9, 1)),
+        ([open(33).as_bytes(), b"\xff"].concat(), Refused(9, 33)),
+        (open(4097).into(), Refused(8, 0)),
+        (open(4096).into(), Refused(10, 32)),
+        (["x", &open(33)].concat().into(), Refused(13, 0)),
+        ("uint(".into(), Refused(11, 0)),
+    ];
+    let unfit = [
+        "(uint,)", "(,uint)", "([])", "(uint)[+2]", "(uint)[2 ]", "(uint)[18446744073709551616]",
+        "(uint)[2", "()()", "(uint))", "(bytes33)", "(uint12)", "(uint a)", "((uint)a)", "(uint, bool)",
+        "(uint) ", "(string memory)", "(é)", " (uint)", "(uint),bool", "(uint),(bool)",
+    ];
+    rows.extend(unfit.map(|text| (text.into(), Refused(13, 0))));
+    rows
+}

@@ -35,9 +35,10 @@ pub fn each(count: usize, seed: u64, mut take: impl FnMut(&[u8])) {
     long(&mut counted);
     located(&mut |text, _, _| counted(text.as_bytes()));
     visible(&mut counted);
+    bracketed(&mut counted);
     let left = count.saturating_sub(made);
     short(left / 3, &mut take);
-    let mut maker = Maker { random: Random::new(seed), out: vec![], loose: false, deep: 0 };
+    let mut maker = Maker { random: Random::new(seed), out: vec![], loose: false, bare: false, deep: 0 };
     for i in 0..left - left / 3 / PLACES.len() * PLACES.len() {
         maker.text();
         if i % 2 == 1 {
@@ -57,7 +58,8 @@ fn blanks(take: &mut impl FnMut(&[u8])) {
         "error e(bool~,~int)", "error e(()~[2])", "error e(()[~])", "error e(()[2~])",
         "error e(()[~2])", "error e(()~a~)", "function f()~pure~", "constructor()~payable~;~",
         "function f()~returns~(~int~)", "event e()~anonymous", "~uint", "uint~", "uint[~]",
-        "uint[2~]", "function f~", "function f(int~", "function f()~x", "function~(",
+        "uint[2~]", "function f~", "function f(int~", "function f()~x", "function~(", "~(uint)",
+        "(~uint)", "(uint~)", "(uint)~", "(uint~,bool)", "(uint,~bool)", "(uint)[~]", "(uint)[2~]",
     ];
     let mut characters = vec![0, 0x1C, 0x1F, 0x7F, 0x180E, 0x200D, 0x2060, 0xFEFF, 0x1_2000, 0x10_FFFF];
     for blank in BLANKS {
@@ -77,7 +79,7 @@ fn blanks(take: &mut impl FnMut(&[u8])) {
 /// two to four bytes, overlong forms, surrogates and too large ones among them; whole and cut.
 fn edge_bytes(take: &mut impl FnMut(&[u8])) {
     let mut put = |bytes: &[u8]| {
-        for (before, behind) in [("", ""), ("function f(int", " a)"), ("uint", "[]")] {
+        for (before, behind) in [("", ""), ("function f(int", " a)"), ("uint", "[]"), ("(uint", ")")] {
             take(&[before.as_bytes(), bytes, behind.as_bytes()].concat());
         }
     };
@@ -122,7 +124,8 @@ fn nesting(take: &mut impl FnMut(&[u8])) {
 
 /// Texts near 4,096 bytes and over.
 fn long(take: &mut impl FnMut(&[u8])) {
-    let deep = format!("{}{},", "(".repeat(32), ")".repeat(32));
+    let nested = |depth| format!("{}{},", "(".repeat(depth), ")".repeat(depth));
+    let (deep, within) = (nested(32), nested(31));
     let shapes = [
         ("function f()", " ", ""), ("function", "\u{3000}", "f()"), ("function f()", " ", "x"),
         ("", "\n", "event e()"), ("error ", "n", "()"), ("uint", "0", "8"), ("bytes+", "0", "32"),
@@ -133,6 +136,9 @@ fn long(take: &mut impl FnMut(&[u8])) {
         ("error e(", &deep, "x)"), ("function f(", "(", ")"), ("function f()", "é", ""), ("", "(", ""),
         ("function f(", "() memory a,", "()[])returns(int)"), ("function f(uint", "[2]", " memory a)"),
         ("function f()external", " ", "returns()"), ("function f()pure", "\u{3000}", "public public"),
+        ("(", "(),", "())"), ("(", "uint,", "uint)[2]"), ("(", &within, "bool)"), ("(", &deep, "bool)"),
+        ("(uint)", "[]", ""), ("(uint)[", "0", "7]"), ("(uint", "[2]", ")"), ("()", "(", ""),
+        ("(uint)", "[18446744073709551615]", ""), ("(", ")(", "(("),
     ];
     for (before, pad, behind) in shapes {
         for size in (4085..=4100).chain([1000, 1024, 1025, 65_536]) {
@@ -198,10 +204,42 @@ fn visible(take: &mut impl FnMut(&[u8])) {
     }
 }
 
+/// Kind texts that start with `(`, or nearly: what may be a component and what may not, at every place
+/// of a tuple; and brackets around the most that may be open, with others before them and behind.
+fn bracketed(take: &mut impl FnMut(&[u8])) {
+    let parts = [
+        "", "uint", "int8[2]", "string[][0]", "bytes33", "uint12", "uint0", "uint08", "bytes+1",
+        "uint[+2]", "uint[18446744073709551615]", "uint[18446744073709551616]", "x", "é", "fixed",
+        "uint a", " uint", "uint ", "uint\n", "string memory", "address payable", "[]", "uint[", "uint]",
+        "uint;", "uint(", "()", "()a", "() a", "()()", "()[]", "()[2]a", "()[02]", "()[+2]", "()[ 2]",
+        "()[2 ]", "()[ ]", "()[-1]", "()[18446744073709551615]", "()[18446744073709551616]", "(", ")",
+        ",", "uint,", ",uint", "uint,bool", "uint, bool", "uint,,bool", "(uint,bool)[],(int)",
+        "(uint,(bool))",
+    ];
+    let places = [
+        "(~)", "(~,bool)", "(bool,~)", "((~))", "((~)[2],~)[]", "(~", "~)", "(~)a", "(~)[]", "(~)[2][",
+        "(~)[+2]", "(~)[02]", "(~),bool", "(~),(~)", "(~)(~)", "(~))", "(~);", " (~)", "(~) ",
+        "\u{feff}(~)", "(~)[2",
+    ];
+    for (place, part) in places.iter().flat_map(|place| parts.map(|part| (place, part))) {
+        take(place.replace('~', part).as_bytes());
+    }
+    let fronts = ["", "x", "é", ")", "))))", "()", "(),", "uint,", "() ", "(uint)[2],", ")(", "\n"];
+    for (front, open) in fronts.iter().flat_map(|front| (28..=40).map(move |open| (front, open))) {
+        let text = ["(", front, &"(".repeat(open)].concat();
+        let (closed, suffixed) = (")".repeat(open), ")[2]".repeat(open + 1));
+        for behind in ["", "uint", "x", "é", ")", "uint)", &closed, &suffixed] {
+            take([&text, behind].concat().as_bytes());
+        }
+        take([&text, "uint", &")".repeat(open + 1)].concat().as_bytes());
+        take(text[1..].as_bytes());
+    }
+}
+
 // --- exhaustive short texts ---------------------------------------------------------------
 
 /// Where strings of tokens are put: what stands before them, behind them, and the tokens.
-const PLACES: [(&str, &str, &[&str]); 10] = [
+const PLACES: [(&str, &str, &[&str]); 12] = [
     ("", "", &["int", "uint", "bytes", "8", "3", "[", "]", "+", "0"]),
     ("", "", &["function", "constructor", "event", "error", " ", "f", "()", ";"]),
     ("function f", "", &["(", ")", ",", "int", " ", "a", "é"]),
@@ -212,6 +250,8 @@ const PLACES: [(&str, &str, &[&str]); 10] = [
     ("error e((int)", ")", &["[", "]", "2", " ", "+", ",", "a"]),
     ("function f()", "", &["pure", "payable", "returns", "()", " ", ";", "x"]),
     ("function f()", "", &["external", "public", "view", "returns", "()", " ", ";"]),
+    ("(", "", &["(", ")", ",", "bool", "[2]", "a"]),
+    ("((uint)", ")", &["[", "]", "2", "+", ",", "()", "a", " "]),
 ];
 
 /// The shortest strings of tokens, all of one length before the next.
@@ -245,6 +285,8 @@ struct Maker {
     out: Vec<u8>,
     /// Whether blanks, signs and leading zeros are strewn in.
     loose: bool,
+    /// Whether it is a kind text, where blanks, marks and names are rare.
+    bare: bool,
     /// How many more tuples may be opened.
     deep: usize,
 }
@@ -259,9 +301,14 @@ impl Maker {
         self.out.extend(blank.encode_utf8(&mut [0; 4]).bytes());
     }
 
+    /// Whether blanks, marks and names may be put in here: in a kind text now and then.
+    fn is_free(&mut self) -> bool {
+        !self.bare || self.random.once_in(60)
+    }
+
     /// Where blanks may stand.
     fn gap(&mut self) {
-        while self.loose && self.random.once_in(3) {
+        while self.loose && self.random.once_in(3) && self.is_free() {
             match self.random.once_in(2) {
                 true => self.put(" "),
                 false => self.any_blank(),
@@ -352,14 +399,17 @@ impl Maker {
         } else {
             self.elementary();
         }
-        if self.random.once_in(3) {
+        if self.random.once_in(3) && self.is_free() {
             self.blank();
             let other = self.random.of(&["memory", "calldata", "indexed"]);
             let word = if self.random.once_in(9) { other } else { mark };
             self.put(word);
         }
-        if self.random.once_in(2) {
-            self.blank();
+        if self.random.once_in(2) && self.is_free() {
+            // Behind a bracket no blank is needed.
+            if !self.bare || self.random.once_in(2) {
+                self.blank();
+            }
             self.name();
         }
         self.gap();
@@ -457,6 +507,18 @@ impl Maker {
         self.gap();
     }
 
+    /// A kind text that starts with `(`; one in six has blanks, marks and names as a list has.
+    fn tuple_alone(&mut self) {
+        self.bare = !self.random.once_in(6);
+        self.deep = *self.random.of(&[&1, &2, &2, &3, &4]);
+        if self.random.once_in(4) {
+            // The first 29 to 34 tuples stand each in the one before.
+            self.deep = 4 + 29 + self.random.below(6);
+        }
+        self.tuple();
+        self.bare = false;
+    }
+
     /// A declaration, or now and then a kind alone.
     fn text(&mut self) {
         self.out.clear();
@@ -466,10 +528,10 @@ impl Maker {
             // The first 30 to 34 tuples stand each in the one before.
             self.deep = 4 + 30 + self.random.below(5);
         }
-        if self.random.once_in(8) {
-            self.elementary();
-        } else {
-            self.declaration();
+        match self.random.below(8) {
+            0 => self.elementary(),
+            1 => self.tuple_alone(),
+            _ => self.declaration(),
         }
         if self.random.once_in(32) {
             self.stray();
