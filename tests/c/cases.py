@@ -3,15 +3,17 @@
 The Rust's list says what is read of a text, and canonical text and signature of what was read; a name and the kinds of its
 fields stand in the canonical text and the signature. The Rust forgets place words, so its records say nothing of them; the
 marks that stand for them are order 1's. The Rust reads no visibility words: a text with one is read as the text without it,
-and refused where order 2 says. What of records is wrong, and with which refusal, is document 01's and order 1's; the limits
-of texts are document 01's.
+and refused where order 2 says. The text of a field's kind is read again as that kind, as order 3 says, which is the field
+without its names. What of records is wrong, and with which refusal, is document 01's and order 1's; the limits of texts are
+document 01's and, of kind texts, order 3's.
 """
 import itertools
 import re
 
 UNLIMITED = "-"
 NOT_WELL_FORMED, WRONG_SORT, NO_ROOM = "no 15 0", "no 16 0", "no 20 0"
-FIELD, NAME, LIST, FUNCTION, CONSTRUCTOR, EVENT, ERROR = 0x10, 0x11, 0x12, 0x20, 0x21, 0x22, 0x23
+TUPLE, FIXED, OPEN, FIELD, NAME, LIST, FUNCTION, CONSTRUCTOR, EVENT, ERROR = 9, 0xA, 0xB, 0x10, 0x11, 0x12, 0x20, 0x21, 0x22, 0x23
+WORDS = dict(enumerate((b"int", b"uint", b"address", b"bool", b"bytes", b"function", b"bytes", b"string"), 1))  # of elementary kinds
 KEYWORDS = {FUNCTION: "function", CONSTRUCTOR: "constructor", EVENT: "event", ERROR: "error"}
 UNMARKED, INDEXED, CALLDATA, MEMORY = range(4)
 LOCATIONS = {CALLDATA: b"calldata", MEMORY: b"memory"}
@@ -117,10 +119,37 @@ def own_fields(r):
             yield from parts(part[6:], at + 6)
 
 
+def components(r):
+    """The fields of a field's tuple, if it has one."""
+    for _, part in parts(r[8:], 8):
+        if kind_of(part) == TUPLE:
+            yield from (one for _, one in parts(part[6:], 6))
+
+
+def bare(r):
+    """A field's kind by itself: the field with mark 0 and without names, its own and those within its tuple."""
+    changed = {NAME: lambda part: record(NAME), TUPLE: lambda part: record(TUPLE, *(bare(one) for _, one in parts(part[6:], 6)))}
+    return record(FIELD, number(UNMARKED, 2), *(changed.get(kind_of(part), bytes)(part) for _, part in parts(r[8:], 8)))
+
+
+def text_of(r):
+    """The text of a field's kind."""
+    return b"".join(text_of_part(part) for _, part in parts(r[8:], 8) if kind_of(part) != NAME)
+
+
+def text_of_part(part):
+    """Of a kind without its suffixes, or of a suffix."""
+    kind, body = kind_of(part), part[6:]
+    if kind == TUPLE:
+        return b"(" + b",".join(text_of(one) for _, one in parts(body, 6)) + b")"
+    n = b"%d" % int.from_bytes(body, "little") if body else b""
+    return b"[" + n + b"]" if kind in (FIXED, OPEN) else WORDS[kind] + n
+
+
 def heads(r, at=0):
     """Where the heads of a record and of the records in it stand."""
     yield at
-    inner = {9: 6, FIELD: 8, LIST: 6, FUNCTION: 8, CONSTRUCTOR: 8, EVENT: 8, ERROR: 6}.get(kind_of(r))
+    inner = {TUPLE: 6, FIELD: 8, LIST: 6, FUNCTION: 8, CONSTRUCTOR: 8, EVENT: 8, ERROR: 6}.get(kind_of(r))
     for place, part in parts(r[inner:], at + inner) if inner else ():
         yield from heads(part, place)
 
@@ -140,7 +169,9 @@ def kinds_in(canonical):
 
 
 def of_field(r, text):
-    """A field by itself. One with a mark is none, and is one with mark 0, whatever its name."""
+    """A field by itself. One with a mark is none, and is one with mark 0, whatever its name. The text of its kind is read again, and so
+    are those of the fields within it."""
+    assert text == text_of(r)
     whole, (_, name) = mark_of(r) == UNMARKED, next(parts(r[8:], 8))
     yield from answered("kind_text", r, text if whole else NOT_WELL_FORMED)
     yield from answered("name", r, name[6:] if whole else NOT_WELL_FORMED)
@@ -148,6 +179,17 @@ def of_field(r, text):
         yield from refused(call, r, NOT_WELL_FORMED)
     if not whole:
         yield from of_field(r[:6] + number(UNMARKED, 2) + r[8:], text)
+        return
+    yield from read_again(r, text)
+    for one in components(r):
+        yield from of_field(one, text_of(one))
+
+
+def read_again(r, text):
+    """Order 3: the text of a field's kind is read as that kind, whose text is the same."""
+    if len(text) <= MOST_BYTES:
+        yield from written("kind", text, bare(r))
+        yield from written("kind_text", bare(r), text)
 
 
 def of_declaration(r, canonical, signature):
@@ -156,11 +198,12 @@ def of_declaration(r, canonical, signature):
     yield from answered("signature", r, signature if kind == FUNCTION else WRONG_SORT)
     yield from answered("name", r, WRONG_SORT if kind == CONSTRUCTOR else canonical[:canonical.index(b"(")])
     yield from refused("kind_text", r, NOT_WELL_FORMED)
+    fields = [one for _, one in own_fields(r)]
+    kinds = [text_of(one) for one in fields]
     if kind != CONSTRUCTOR:
-        fields, kinds = list(own_fields(r)), kinds_in(canonical) + (kinds_in(signature[len(canonical):]) if kind == FUNCTION else [])
-        assert len(fields) == len(kinds)
-        for (_, one), text in zip(fields, kinds):
-            yield from of_field(one, text)
+        assert kinds == kinds_in(canonical) + (kinds_in(signature[len(canonical):]) if kind == FUNCTION else [])
+    for one, text in zip(fields, kinds):
+        yield from of_field(one, text)
 
 
 def is_read(row):
@@ -489,7 +532,36 @@ def of_limits():
             yield from refused(call, opening + b"(" * 33, f"no 10 {len(opening) + 32}")
             for text in (longest_text, longest_text + b" ", opening + b"(" * 33):
                 yield from written(f"message:{call}", text, b"")
-    yield from refused("kind", b"(uint)", "no 14 0")
-    yield from refused("kind", b"(" * 4096, "no 14 0")
-    yield from refused("kind", b"(" * 4097, "no 8 0")
-    yield from refused("kind", b"(\xff", "no 9 1")
+
+
+def of_kind_texts():
+    """Kind texts that start with `(`, of which the Rust's list has those with at most 32 tuples open."""
+    inner = field(nested(31))
+    for text, r in (
+        (b"()", field(EMPTY)),
+        (b"(uint)", field(record(TUPLE, field(UINT)))),
+        (b"(" * 32 + b"uint" + b")" * 32, field(nested(32, field(UINT)))),
+        (b"(" + b"()," * 1364 + b"())", field(record(TUPLE, *[field(EMPTY)] * 1365))),
+        (b"(" + b",".join([b"(" * 31 + b")" * 31] * 65) + b")", field(record(TUPLE, *[inner] * 65))),
+        (b"()" + b"[]" * 2047, field(EMPTY, suffixes=record(OPEN) * 2047)),
+    ):
+        yield from written("kind", text, r)
+        yield from refused("kind", text.ljust(MOST_BYTES + 1, b")"), "no 8 0")
+        yield from refused("kind", text + b" ", "no 13 0" if len(text) < MOST_BYTES else "no 8 0")
+    for text, answer in (
+        (b"(" * 32, "no 13 0"),
+        (b"(" * 33, "no 10 32"),
+        (b"(x" + b"(" * 32, "no 10 33"),
+        ("(é".encode() + b"(" * 32, "no 10 34"),
+        (b"()" + b"(" * 33, "no 10 34"),
+        (b"())))" + b"(" * 36, "no 10 40"),
+        (b"())))" + b"(" * 35, "no 13 0"),
+        (b"(" * 33 + b")" * 33, "no 10 32"),
+        (b"(uint)x" + b"(" * 33, "no 10 39"),
+        (b"(" * 4096, "no 10 32"),
+        (b"(" * 4097, "no 8 0"),
+        (b"(\xff", "no 9 1"),
+        (b"(" * 33 + b"\xff", "no 9 33"),
+        (b"x" + b"(" * 33, "no 13 0"),
+    ):
+        yield from refused("kind", text, answer)

@@ -1,6 +1,7 @@
-"""Tests of the header: the texts of the refusals are document 01's, and each call gives the refusals that its comment names.
+"""Tests of the header: the refusals and their texts are document 01's, and each call gives the refusals that its comment names.
 
-A number's words stand behind it in document 01, up to its position or the end of the sentence; 11 to 13 share theirs.
+A number's words stand behind it in document 01, up to its position or the end of the sentence; 11 to 13 share theirs. A number
+that document 02 says is no longer given has none.
 """
 import re
 import shutil
@@ -12,17 +13,20 @@ LANGUAGES = {"C99": ["gcc", "-std=c99", "-x", "c"], "C11": ["gcc", "-std=c11", "
 NUMBERS = (*range(41), 2 ** 32 - 1)  # those that header.c asks for
 
 
-def document_words(document):
-    """Numbers and their words, as document 01 has them."""
+def document_words(top):
+    """Numbers and their words, as the documents have them."""
+    document, orders = ((top / "docs" / name).read_text() for name in ("01-scope.md", "02-change-requests.md"))
     causes = document[document.index("## What the sender's bytes cause"):document.index("## Edges")]
     words = {int(n): text for n, text in re.findall(r"(?:^|\. |: )(\d+) (.*?)(?=, position|;|\.(?: |$))", causes, re.M)}
     shared, starts, *ends = re.search(r"(what remains [^:]*): 11 if (it starts) (with [^,]*), 12 if (with [^,]*), 13 (\w+)\.", causes).groups()
-    return {**words, **{11 + i: f"{shared}: {starts} {end}" for i, end in enumerate(ends)}}
+    words.update({11 + i: f"{shared}: {starts} {end}" for i, end in enumerate(ends)})
+    gone = {int(n) for n in re.findall(r"Number (\d+) is no longer given", orders)}
+    return {n: text for n, text in words.items() if n not in gone}
 
 
 def expected(top):
     """What header.c has to print."""
-    words = document_words((top / "docs" / "01-scope.md").read_text())
+    words = document_words(top)
     version = VERSION.search((top / "include" / "geusomin.h").read_text())[1]
     return [version, *(f"{n} {words.get(n, '-')}" for n in NUMBERS), "f(uint256)"]
 
@@ -49,6 +53,16 @@ def texts(top):
             print(f"header in {language}: not printed: {line}")
         passed, failed = passed + len(wanted) - len(wrong), failed + len(wrong) + max(0, len(got) - len(wanted))
     return passed, failed
+
+
+def enumerators(top):
+    """Whether the header names the numbers that there are, and no other."""
+    listed = re.search(r"enum geusomin_refusal \{(.*?)\};", (top / "include" / "geusomin.h").read_text(), re.S)[1]
+    named = sorted(int(n) for n in re.findall(r"^ *GEUSOMIN_\w+ = (\d+)", listed, re.M))
+    wrong = named != sorted(document_words(top))
+    if wrong:
+        print(f"header: the enum has the refusals {named}")
+    return 1 - wrong, int(wrong)
 
 
 # The refusals that a call can give.

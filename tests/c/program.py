@@ -171,7 +171,7 @@ def help_and_version_go_to_standard_output(program):
     same((status, told), (0, b""))
     for word in ("usage: geusomin", "--check", "--quiet", "--version", "replay", "bench FILE", "Status:"):
         assert word in printed.decode(), word
-    words = header.document_words((TOP / "docs" / "01-scope.md").read_text())
+    words = header.document_words(TOP)
     same(printed.decode().split("Refusals:\n")[1].splitlines(), [f"{number:4} {words[number]}" for number in sorted(words)])
     version = header.VERSION.search((TOP / "include" / "geusomin.h").read_text())[1]
     same(run([program, "--version"]), (0, f"geusomin {version}\n".encode(), b""))

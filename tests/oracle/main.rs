@@ -1,7 +1,8 @@
 //! Oracle: answers of the published Rust reader, one line per input line.
 //!
 //! Input  `CALL HEX`, CALL one of general, function, constructor, event, error,
-//! kind; HEX the text's bytes, `-` if empty.
+//! kind; HEX the text's bytes, `-` if empty. A kind text that starts with `(` is asked for in
+//! an error's list, since the original's own reader of kinds loses a tuple's last component.
 //! Output `ok RECORDHEX CANONHEX SIGHEX`, `no NUMBER POS MSGHEX`, or, where the
 //! original panics in `with_context`, `panic NUMBER POS -` (number and position from
 //! the copy whose two slices there cannot panic). `-` stands for what there is none of:
@@ -207,6 +208,31 @@ fn refused(e: impl std::fmt::Debug + std::fmt::Display) -> String {
     format!("no {n} {pos} {}", hex(e.to_string().as_bytes()))
 }
 
+// --- kind texts that start with a bracket -------------------------------------------
+
+fn is_nameless(f: &Field) -> bool {
+    f.name.is_empty() && f.components.iter().flatten().all(is_nameless)
+}
+
+/// The only field of an error's list, if the text is one without blanks and names. The text of the
+/// error ends with the list's bracket, so the list is the text and no less.
+fn only_field(s: &str) -> Option<Field> {
+    let around = format!("error e({s})");
+    // The original panics only where it refuses.
+    let read = catch_unwind(AssertUnwindSafe(|| ErrorDescriptor::parse_declaration(&around)));
+    let mut fields = read.ok()?.ok()?.inputs;
+    let only = fields.pop().filter(|f| fields.is_empty() && is_nameless(f))?;
+    (!s.contains(char::is_whitespace)).then_some(only)
+}
+
+/// Order 3: what is no such field gets 13, whatever is wrong with it.
+fn tuple_answer(s: &str) -> String {
+    match only_field(s) {
+        Some(f) => format!("ok {} {} -", hex(&field_rec(0, &f)), hex(f.kind.to_string().as_bytes())),
+        None => "no 13 0 -".into(),
+    }
+}
+
 fn answer(call: &str, s: &str) -> String {
     match call {
         "general" => match Descriptor::parse_declaration(s) {
@@ -233,6 +259,7 @@ fn answer(call: &str, s: &str) -> String {
             Ok(d) => error(&d),
             Err(e) => refused(e),
         },
+        "kind" if s.starts_with('(') => tuple_answer(s),
         "kind" => match s.parse::<ValueKind>() {
             Ok(k) => format!("ok {} {} -", hex(&bare(&k)), hex(k.to_string().as_bytes())),
             Err(e) => {

@@ -213,6 +213,41 @@ def short_kinds():
     yield from by_kind("bytes" + rest for rest in strings("[]03+", 2))
 
 
+def tuple_alone():
+    """Kind texts that start with `(`, and what order 3 says is none: blanks, names, marks, bad
+    components and numbers, and more or less than one tuple with its suffixes."""
+    parts = [
+        "", *PLAIN_KINDS, "int8", "uint08", "bytes+032", "uint[+2]", "bool[007][]", "string[0][]",
+        "uint7", "bytes33", "fixed", "x", "é", ",", "uint,", ",uint", "uint,bool", "uint,,bool",
+        "uint, bool", "uint ,bool", " uint", "uint ", "uint a", "string memory", "address payable",
+        "[]", "uint[", "uint]", "uint(", "uint;", "()", "()a", "() a", "()()", "()[]", "()[2]a",
+        "()[+2]", "()[2 ]", "(uint,bool)[2],int", "((),(uint8))", "(", ")",
+    ]
+    places = ["(~)", "(bool,~)", "(~,(int)[])", "((~)[2])[][3]"]
+    yield from by_kind(place.replace("~", part) for place, part in product(places, parts))
+    behind = ["x", " ", ")", "(", "()", ",bool", ",(bool)", ";", "a[2]", "[2]a", "é", "\0"]
+    yield from by_kind("(uint)" + rest for rest in behind)
+    before = [" ", "\t", "x", "uint", ",", ")", "[", "+", "\ufeff"]
+    yield from by_kind(front + "(uint)" for front in before)
+    largest = 2**64 - 1
+    suffixes = [
+        "[]", "[2]", "[0]", "[007]", f"[{largest}]", f"[000{largest}]", f"[{largest + 1}]",
+        f"[{10 * largest}]", "[2][][0]", "[][][]", "[+2]", "[-1]", "[ ]", "[ 2]", "[2 ]", " [2]",
+        "[2] ", "[2", "[", "]", "[2]]", "[[2]]", "[a]", "[2a]", "[()]", "[٢]", "[2,]",
+    ]
+    yield from by_kind(stem + suffix for stem, suffix in product(["()", "(int)"], suffixes))
+    yield from by_kind("(" + rest for rest in strings(["(", ")", ",", "int"], 3))
+    for depth in range(1, MOST_TUPLES + 1):
+        whole = nested(depth)
+        yield from by_kind([whole, nested(depth, "bool", "[2]"), whole[:-1], whole + ")"])
+    for depth, part in product([2, 8, 31, 32], ["uin", "int a", "int,", "int,bool[]", "é"]):
+        yield "kind", nested(depth, part)
+    for character in BLANKS + LOOK_ALIKES[::3]:
+        yield from by_kind([f"(uint{character})", f"(){character}", f"()[{character}]"])
+    pieces = [b"\xff", b"\xc2", b"\xe2\x80", "\u20ac".encode()]
+    yield from by_kind(b"(" + piece + b")" for piece in pieces)
+
+
 # --- lists ------------------------------------------------------------------------
 
 
@@ -515,6 +550,7 @@ GOOD_DECLARATIONS = [
 ]
 
 GOOD_KINDS = ["uint256[2][]", "bytes32[+07]", "int+08[][10]", "address[]", "string[0]"]
+GOOD_TUPLES = ["(uint256,(bool,bytes32)[2][])[07]", "((),address[+3],int08)"]
 
 
 class Damager:
@@ -571,7 +607,7 @@ def damaged():
         once = damager.damage(text.encode())
         yield damager.random.choice(["general", call_of(text)]), once
         yield "general", damager.damage(once)
-    for text, _ in product(GOOD_KINDS, range(16)):
+    for text, _ in product(GOOD_KINDS + GOOD_TUPLES, range(16)):
         yield "kind", damager.damage(text.encode())
 
 
@@ -580,7 +616,7 @@ def cuts():
     for text in GOOD_DECLARATIONS[2::4]:
         whole = text.encode()
         yield from by_general(whole[:size] for size in range(len(whole) + 1))
-    for text in GOOD_KINDS:
+    for text in GOOD_KINDS + GOOD_TUPLES:
         yield from by_kind(text[:size] for size in range(len(text) + 1))
 
 
@@ -601,12 +637,19 @@ def long_texts():
     yield "kind", padded("uint", "[]", "")
     yield "kind", padded("uint", "[]", "x", 900)
     yield "kind", padded("string", "[1]", "", 900)
+    yield "kind", padded("(", "(),", "())")
+    yield "kind", padded("(uint", ",uint", ")", 1200)
+    yield "kind", padded("(uint", ",uint", ",)", 1200)
+    yield "kind", padded("()", "[]", "", 1200)
+    yield "kind", padded("()[", "0", "7]")
     yield "constructor", padded("constructor(()[", "0", "7])")
     yield "constructor", padded("constructor(()[", "9", "])", 300)
     yield "constructor", padded("constructor(()", "[ ]", ")", 1200)
     yield "general", padded("function f(int", ",int", ")", 1000)
     yield "general", padded("function f(int", ",int", ",)")
     yield "event", padded("event e(bool indexed a", ",bool indexed a", ")", 1200)
+    within = nested(MOST_TUPLES - 1)
+    yield "kind", padded("(" + within, "," + within, ")", 1200)
     deep = nested(MOST_TUPLES)
     yield "error", padded("error e(" + deep, "," + deep, ")")
     yield "error", padded("error e(" + deep, "," + deep, ",x)", 900)
@@ -616,9 +659,9 @@ def long_texts():
 
 GROUPS = [
     edges, openings, ordinary, elementary_kinds, bad_numbers, odd_kinds, array_suffixes,
-    short_kinds, kinds_in_lists, marks, tails, visibility, tuple_depths, tuple_suffixes,
-    broken_lists, short_declarations, blanks, messages, cut_characters, invalid_utf8, grammar_made,
-    damaged, cuts, long_texts,
+    short_kinds, tuple_alone, kinds_in_lists, marks, tails, visibility, tuple_depths,
+    tuple_suffixes, broken_lists, short_declarations, blanks, messages, cut_characters,
+    invalid_utf8, grammar_made, damaged, cuts, long_texts,
 ]
 
 
@@ -633,10 +676,9 @@ def most_open(text):
 
 def in_domain(call, text):
     """Whether the Rust's answer is the reference: a text that is short enough, with at
-    most 32 tuples open inside a list, and no kind text that starts with a bracket."""
-    if call == "kind" and text.startswith(b"("):
-        return False
-    return len(text) <= MOST_BYTES and most_open(text) <= 1 + MOST_TUPLES
+    most 32 tuples open. The first bracket of a declaration is its list's, not a tuple's."""
+    lists = 0 if call == "kind" else 1
+    return len(text) <= MOST_BYTES and most_open(text) <= lists + MOST_TUPLES
 
 
 def lines():
