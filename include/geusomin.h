@@ -26,7 +26,7 @@
 extern "C" {
 #endif
 
-#define GEUSOMIN_VERSION "0.2.0"
+#define GEUSOMIN_VERSION "0.3.0"
 
 /* A text of more than GEUSOMIN_TEXT_MAX bytes is refused with 8. A record of more than GEUSOMIN_RECORD_MAX bytes is not
    well formed, and a reading call writes at most 10 bytes for each byte of its text, so a buffer of GEUSOMIN_RECORD_MAX
@@ -54,11 +54,11 @@ enum geusomin_refusal {
     GEUSOMIN_TOO_LONG = 8,             /* over 4,096 bytes, position 0 */
     GEUSOMIN_NOT_UTF8 = 9,             /* not UTF-8, position the length of the longest valid prefix */
     GEUSOMIN_TOO_DEEP = 10,            /* the reader meets a 33rd open tuple, position its `(` */
-    /* for the kind call only, at position 0; 11 to 13: what remains once readable suffixes are off is no kind */
+    /* for the kind call only, at position 0: what remains once readable suffixes are off is no kind */
     GEUSOMIN_INVALID_BIT_WIDTH = 11,   /* it starts with `int` or `uint` */
     GEUSOMIN_INVALID_BYTE_LENGTH = 12, /* it starts with `bytes` */
-    GEUSOMIN_UNKNOWN = 13,             /* it starts otherwise */
-    GEUSOMIN_STARTS_WITH_TUPLE = 14,   /* kind text starts with `(` */
+    GEUSOMIN_UNKNOWN = 13,             /* it starts otherwise; or the kind text starts with `(` and is no kind */
+    /* 14 was "kind text starts with `(`" until 0.2; nothing has it now, since such texts are read */
     /* of lent records, at position 0 */
     GEUSOMIN_NOT_WELL_FORMED = 15,     /* record not well formed, or of the wrong sort: a field where a declaration is due */
     GEUSOMIN_WRONG_SORT = 16,          /* canonical or name of a constructor, or signature of anything but a function */
@@ -96,8 +96,6 @@ static inline const char *geusomin_refusal_text(uint32_t number)
         return "what remains once readable suffixes are off is no kind: it starts with `bytes`";
     case GEUSOMIN_UNKNOWN:
         return "what remains once readable suffixes are off is no kind: it starts otherwise";
-    case GEUSOMIN_STARTS_WITH_TUPLE:
-        return "kind text starts with `(`";
     case GEUSOMIN_NOT_WELL_FORMED:
         return "record not well formed (or of the wrong sort: a field where a declaration is due)";
     case GEUSOMIN_WRONG_SORT:
@@ -154,7 +152,10 @@ uint32_t geusomin_parse_error(const uint8_t *text, size_t text_len, uint8_t *rec
 uint32_t geusomin_parse_constructor(const uint8_t *text, size_t text_len, uint8_t *record, size_t room, size_t *value);
 
 /* The kind call: a whole text as a kind, which is what Solidity calls a type. Writes a field record with mark 0 and an
-   empty name. Refusals: 8, 9, 11 to 14, 20. */
+   empty name. A tuple is `(`, kinds parted by `,`, `)`, then suffixes; it has no blanks and no names here, and no field in
+   its record has one. A text that starts with `(` is refused with 10 where some beginning of it has 33 more `(` than `)`,
+   at the first such `(`, and with 13 whatever else is wrong with it. The text that geusomin_kind_text writes of a field is
+   read as the same kind if it has at most GEUSOMIN_TEXT_MAX bytes. Refusals: 8 to 13, 20. */
 uint32_t geusomin_parse_kind(const uint8_t *text, size_t text_len, uint8_t *record, size_t room, size_t *value);
 
 /*
