@@ -14,7 +14,9 @@ use Rattle.model.specs.Answer.{number as refusalNo, said, needed, outcom
 use Rattle.model.specs.Calls.{written, readOutput, crowded, isBare, readTuple, readKind, kindOutput, canonicalOutput, signatureOutput, kindTextOutput, nameOutput}
 use Rattle.model.specs.Message.{wording, wholeFrom, wholeTo, context, escaped, messageText, messageOutput}
 use Rattle.model.specs.Deposit.{depositBy, depositLine}
+use Rattle.model.specs.Written.{suffixesText, writtenField}
+use Rattle.model.specs.Full.{fullText, fullOutput}
 
 unfoldable pub evaluation : Unit {0}
-unfolding digits decimal unsigned plain number elementaryText suffixText kindText canonical isElementary spanFrom charOf character validLength blank skip peek wordLength runLength arrays kindOf nameKinds cutLast strip inside peel withNumber fromStrIn fromStr onAns then look takeChar word wordEnd keywordOf lookIdent ident keyword option optionalName end runKind arraySuffix suffixesIn suffixes fieldKind marks fieldBy closing rest list tupleKind fields visibility modifiers returns keywordText function constructor event error exec wanted readDeclaration admit parse littleEndian leValue recordOf pieceOf encodeElementary encodeSuffix encodeSuffixes encodeName encodeField encodeList encode isMark isField isDeclaration wellFormed wellFormedField decodeElementary decodeSuffix baseFrom eachIn decodeSuffixes fieldFrom tupleFrom decodeField decodeFields decodeDeclaration decode decodeLone keywordIn canonicalText signatureText fieldText nameOf fieldName line refusalNo said needed outcome after refusalNumber handed written readOutput crowded isBare readTuple readKind kindOutput canonicalOutput signatureOutput kindTextOutput nameOutput wording wholeFrom wholeTo context escaped messageText messageOutput depositBy depositLine
+unfolding digits decimal unsigned plain number elementaryText suffixText kindText canonical isElementary spanFrom charOf character validLength blank skip peek wordLength runLength arrays kindOf nameKinds cutLast strip inside peel withNumber fromStrIn fromStr onAns then look takeChar word wordEnd keywordOf lookIdent ident keyword option optionalName end runKind arraySuffix suffixesIn suffixes fieldKind marks fieldBy closing rest list tupleKind fields visibility modifiers returns keywordText function constructor event error exec wanted readDeclaration admit parse littleEndian leValue recordOf pieceOf encodeElementary encodeSuffix encodeSuffixes encodeName encodeField encodeList encode isMark isField isDeclaration wellFormed wellFormedField decodeElementary decodeSuffix baseFrom eachIn decodeSuffixes fieldFrom tupleFrom decodeField decodeFields decodeDeclaration decode decodeLone keywordIn canonicalText signatureText fieldText nameOf fieldName line refusalNo said needed outcome after refusalNumber handed written readOutput crowded isBare readTuple readKind kindOutput canonicalOutput signatureOutput kindTextOutput nameOutput wording wholeFrom wholeTo context escaped messageText messageOutput depositBy depositLine suffixesText writtenField fullText fullOutput
 evaluation = tt

@@ -1,7 +1,7 @@
 -- How long the texts that are written of a record are: none is twice as long as the record is.
 -- Assumes nothing.
 use mathlib.Core.Path.{_≡_, refl, ap}
-use mathlib.Core.Bool.{true, false, false≢true}
+use mathlib.Core.Bool.{Bool, true, false, false≢true}
 use mathlib.Core.List.{List, [], _∷_, _++_}
 use mathlib.Core.Option.{Option, none, some}
 use Prim.Native.Nat.{ℕ, zero, suc, _+_, _*_, _%_, _≤_, _<_}
@@ -9,7 +9,7 @@ use native.Mathlib.Omega.{arith}
 use lib.Dec.{leb, eqb}
 use lib.ListN.{length, length-append}
 use borrow.Author.Tests.{leb-true}
-use Rattle.kinds.specs.Bytes.{ascii, all, isWord}
+use Rattle.kinds.specs.Bytes.{ascii, all, between, isWord}
 use Rattle.kinds.specs.Decimal.{decimal}
 use Rattle.kinds.specs.Kind.{bits, octets, isBitWidth, isElementary, Elementary, int, uint, fixedBytes, address, bool, bytes, string, Suffix, sized, unsized, Kind, elementaryText, suffixText, kindText, listText, restText, Prototype, canonical}
 use Rattle.kinds.proofs.Logic.{left, right}
@@ -20,12 +20,15 @@ use Rattle.model.specs.declared.Sort.the-variants.{Plain, Parameter, Eve
 use Rattle.model.specs.Tree.{Base, elementary, tuple, Field, field, Fields, noField, moreFields, Declaration, arrays, baseKind, kindOf, kindsOf, nameKinds}
 use Rattle.model.specs.KindText.{longest}
 use Rattle.model.specs.Layout.{littleEndian, Bytes}
-use Rattle.model.specs.Record.{encodeElementary, encodeSuffix, encodeSuffixes, encodeName, encodeBase, encodeField, encodeFields, encodeList, encode, isSuffix, isMark, isFieldName, isBase, isField, areFields, isDeclaration, wellFormed, wellFormedField, longestRecord, decode, decodeLone}
-use Rattle.model.specs.Reading.{marks, deepest}
+use Rattle.model.specs.Record.{encodeElementary, encodeSuffix, encodeSuffixes, encodeName, encodeBase, encodeField, encodeFields, encodeList, encode, isSuffix, isMark, isFieldName, isBase, isField, areFields, isDeclaration, wellFormed, wellFormedField, longestRecord, decode, decodeLone, select}
+use Rattle.model.specs.Reading.{locations, attributes, marks, deepest, mutabilities, keywordText}
 use Rattle.model.specs.Line.{canonicalText, signatureText, fieldText}
 use Rattle.model.specs.Answer.{Output, writes, refuses}
 use Rattle.model.specs.Calls.{canonicalOutput, signatureOutput, kindTextOutput, ofRecord, orWrongSort}
-use Rattle.model.proofs.Bounds.{record-size, field-size}
+use Rattle.model.specs.Written.{suffixesText, nameText, byMark, markWord, markText, writtenBase, writtenField, writtenList, writtenRest}
+use Rattle.model.specs.Full.{bracketed, mutabilityText, returnsText, anonymousText, fullText, fullOutput}
+use Rattle.model.proofs.Bounds.{tested, record-size, field-size}
+use Rattle.model.proofs.Marks.{select-word}
 use Rattle.model.proofs.Records.{decode-exactly, decode-lone-exactly}
 
 -- a number of at most 999 has three digits
@@ -175,3 +178,80 @@ module _ (b u : List ℕ) (h : Bytes b) where
       let (w, s) = decode-lone-exactly b g h .0 q in
       let x : fieldText g ≡ u = cc in
       omega (arith, ap length s, ap length x, field-short Plain deepest g (left (leb (length (encodeField 4 g)) longestRecord) w))
+
+-- Whole declarations: mark words and names too.
+
+suffixes-short : (ss : List Suffix) → all isSuffix ss ≡ true → length (suffixesText ss) ≤ 2 * length (encodeSuffixes 4 ss)
+unfolding suffixesText encodeSuffixes
+suffixes-short [] h = omega arith
+suffixes-short (s ∷ ss) h = simp length-append (omega (arith, suffix-short s (left (all isSuffix ss) h), suffixes-short ss (right (isSuffix s) h)))
+
+name-short : (nm : List ℕ) → length (nameText nm) ≤ 1 + length nm
+name-short [] = omega arith
+name-short (c ∷ w) = omega arith
+
+-- no word of a table has more than n bytes
+module _ (n : ℕ) where
+  abbrev isShort : List ℕ → Bool
+  isShort w = leb (length w) n
+
+  word-short : (w : List ℕ) → isShort w ≡ true → length (nameText w) ≤ 1 + n
+  word-short w h = omega (arith, name-short w, leb-true (length w) n h)
+
+pub mark-short : (m : ℕ) → length (markText m) ≤ 9
+mark-short m = word-short 8 (markWord m) (select-word (isShort 8) (attributes ++ locations) refl m)
+
+mutability-short : (m : ℕ) → length (mutabilityText m) ≤ 8
+mutability-short m = word-short 7 (select (byMark mutabilities) [] m) (select-word (isShort 7) mutabilities refl m)
+
+anonymous-short : (a : ℕ) → length (anonymousText a) ≤ 10
+anonymous-short a = tested (λ u. length u ≤ 10) (eqb 1 a) (λ _. omega arith) (λ _. omega arith)
+
+mutual
+  unfolding isBase areFields encodeBase encodeFields writtenBase writtenField writtenList writtenRest
+
+  base-full : (d : ℕ) (b : Base) → isBase d b ≡ true → length (writtenBase b) ≤ 2 * length (encodeBase 4 b)
+  base-full d (elementary e) h = elementary-short e h
+  base-full zero (tuple fs) h = absurd (false≢true h)
+  base-full (suc d) (tuple fs) h = simp record-size (omega (arith, list-full Plain d fs h))
+
+  field-full : (sort : Sort) (d : ℕ) (f : Field) → isField sort d f ≡ true → length (writtenField f) + 1 ≤ 2 * length (encodeField 4 f)
+  field-full sort d (field m nm b ss) h =
+      simp length-append
+      (omega (arith, field-size m nm b ss, base-full d b (its-base sort d m nm b ss h), suffixes-short ss (its-suffixes sort d m nm b ss h), mark-short m, name-short nm))
+
+  list-full : (sort : Sort) (d : ℕ) (fs : Fields) → areFields sort d fs ≡ true → length (writtenList fs) ≤ 2 * length (encodeFields 4 fs) + 1
+  list-full sort d noField h = omega arith
+  list-full sort d (moreFields f fs) h = simp length-append (omega (arith, field-full sort d f (left (areFields sort d fs) h), rest-full sort d fs (right (isField sort d f) h)))
+
+  rest-full : (sort : Sort) (d : ℕ) (fs : Fields) → areFields sort d fs ≡ true → length (writtenRest fs) ≤ 2 * length (encodeFields 4 fs) + 1
+  rest-full sort d noField h = omega arith
+  rest-full sort d (moreFields f fs) h = simp length-append (omega (arith, field-full sort d f (left (areFields sort d fs) h), rest-full sort d fs (right (isField sort d f) h)))
+
+returns-short : (outs : Fields) → areFields Parameter deepest outs ≡ true → length (returnsText outs) ≤ 2 * length (encodeFields 4 outs) + 11
+returns-short noField h = omega arith
+returns-short (moreFields f fs) h = omega (arith, list-full Parameter deepest (moreFields f fs) h)
+
+declaration-full : (d : Declaration) → isDeclaration d ≡ true → length (fullText d) < 2 * length (encode 4 d)
+unfolding fullText keywordText encode encodeList isDeclaration
+declaration-full (Declaration.function m nm ins outs) h =
+    let i : areFields Parameter deepest ins ≡ true = search (left, right) in
+    let o : areFields Parameter deepest outs ≡ true = search (left, right) in
+    simp (length-append, record-size, name-size) (omega (arith, mutability-short m, list-full Parameter deepest ins i, returns-short outs o))
+declaration-full (Declaration.constructor m ins) h =
+    let i : areFields Parameter deepest ins ≡ true = right (between 2 3 m) h in
+    simp (length-append, record-size) (omega (arith, mutability-short m, list-full Parameter deepest ins i))
+declaration-full (Declaration.event a nm ins) h =
+    let i : areFields Event deepest ins ≡ true = search (left, right) in
+    simp (length-append, record-size, name-size) (omega (arith, anonymous-short a, list-full Event deepest ins i))
+declaration-full (Declaration.error nm ins) h =
+    let i : areFields Plain deepest ins ≡ true = right (isWord nm) h in
+    simp (length-append, record-size, name-size) (omega (arith, list-full Plain deepest ins i))
+
+-- and for a whole declaration
+pub full-short : (b u : List ℕ) → Bytes b → fullOutput b ≡ writes u → length u < 2 * length b
+unfolding fullOutput
+full-short b u h e =
+    let (d, q, f) = said-by (decode b) (λ x. writes (fullText x)) u e in
+    let x : fullText d ≡ u = cc in
+    omega (arith, its-size b u h d q, ap length x, declaration-full d (is-whole b u h d q))

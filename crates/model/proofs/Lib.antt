@@ -25,3 +25,4 @@ pub mod KindReads
 pub mod Numbers
 pub mod Messages
 pub mod Demand
+pub mod Full

@@ -70,7 +70,7 @@ readable (Declaration.error nm ins) h = readable-by nm ins Plain (left _ h) (rig
 
 -- Parts of a line.
 
-keyword-word : (k : Keyword) → isWord (keywordText k) ≡ true
+pub keyword-word : (k : Keyword) → isWord (keywordText k) ≡ true
 unfolding keywordText
 keyword-word key.Function = refl
 keyword-word key.Constructor = refl
@@ -96,14 +96,14 @@ reads-line k sort p more e f m =
     (reads-on (fields sort) _ t [] (fieldsOf (p .kinds)) e (reads-fields sort p f) m))
 
 -- at the end of the text
-reads-option : {A : Type 0} (es : List (Entry A)) (d : A) → lookup es [] ≡ none → Reads (option es d) [] [] d
+pub reads-option : {A : Type 0} (es : List (Entry A)) (d : A) → lookup es [] ≡ none → Reads (option es d) [] [] d
 reads-option es d h = option-absent es d [] [] refl refl h
 
-reads-returns : Reads returns [] [] noField
+pub reads-returns : Reads returns [] [] noField
 unfolding returns keywordOf
 reads-returns s at e = rw (returns, keywordOf, name-spaced [] [] refl refl s at e .0) (ap (got noField) (omega arith))
 
-reads-end : Reads end [] [] tt
+pub reads-end : Reads end [] [] tt
 unfolding end then
 reads-end s at e =
     let here : skip s at ≡ at = skip-none s at (rw e blank-nil) in

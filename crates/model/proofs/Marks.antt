@@ -78,14 +78,16 @@ module _ (sort : Sort) (l : Bool) (m : ℕ) where
   pub mark-found : hasMark (marksBy sort l) m ≡ true → lookup (marksBy sort l) (markWord m) ≡ some m
   mark-found h = found-some m _ (right (isWord (markWord m)) (right (ltb m 256) (row h)))
 
+-- what holds of each word of a table, and of none, holds of what is written for a number
+module _ (P : List ℕ → Bool) where
+  abbrev pub eachWord : List (Entry ℕ) → Bool
+  eachWord [] = P []
+  eachWord (entry w m ∷ es) = P w && eachWord es
+
+  pub select-word : (es : List (Entry ℕ)) → eachWord es ≡ true → (m : ℕ) → P (select (byMark es) [] m) ≡ true
+  select-word [] h m = h
+  select-word (entry w n ∷ es) h m = tested (λ u. P u ≡ true) (eqb n m) (λ _. left _ h) (λ _. select-word es (right (P w) h) m)
+
 -- what is written for a mark is a word, or nothing
-abbrev areWords : List (Entry ℕ) → Bool
-areWords [] = true
-areWords (entry w m ∷ es) = isFieldName w && areWords es
-
-select-named : (es : List (Entry ℕ)) → areWords es ≡ true → (m : ℕ) → isFieldName (select (byMark es) [] m) ≡ true
-select-named [] h m = refl
-select-named (entry w n ∷ es) h m = tested (λ u. isFieldName u ≡ true) (eqb n m) (λ _. left _ h) (λ _. select-named es (right (isFieldName w) h) m)
-
 pub mark-named : (m : ℕ) → isFieldName (markWord m) ≡ true
-mark-named m = select-named (attributes ++ locations) refl m
+mark-named m = select-word isFieldName (attributes ++ locations) refl m

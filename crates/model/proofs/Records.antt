@@ -43,7 +43,7 @@ module _ (w : ℕ) where
       let fixed = number 0x5 2 isByteLength (λ v. fixedBytes (octets v)) (λ v h t. t) (λ v. refl) in
       (ints, (uints, (bare 0x3 address refl refl, (bare 0x4 bool refl refl, (fixed, (bare 0x6 Elementary.function refl refl, (bare 0x7 bytes refl refl, (bare 0x8 string refl refl, tt))))))))
 
-  elementary-to : (e : Elementary) → isElementary e ≡ true → Written w decodeElementary (encodeElementary w e) e
+  pub elementary-to : (e : Elementary) → isElementary e ≡ true → Written w decodeElementary (encodeElementary w e) e
   unfolding decodeElementary isElementary encodeElementary
   elementary-to (int (bits n)) g = (0x1, littleEndian 2 n, lit< tt, refl, number-to 2 n isBitWidth (λ v. int (bits v)) (width-fits n g) g)
   elementary-to (uint (bits n)) g = (0x2, littleEndian 2 n, lit< tt, refl, number-to 2 n isBitWidth (λ v. uint (bits v)) (width-fits n g) g)
@@ -77,7 +77,7 @@ module _ (w : ℕ) where
       go P n c [] = n
       go P n c (s ∷ ss) = c s ss (go P n c ss)
 
-  suffixes-spells : Spells w (decodeSuffixes w) (all isSuffix) (encodeSuffixes w)
+  pub suffixes-spells : Spells w (decodeSuffixes w) (all isSuffix) (encodeSuffixes w)
   unfolding decodeSuffixes
   suffixes-spells = each-spells w [] _∷_ decodeSuffix isSuffix (encodeSuffix w) (all isSuffix) (encodeSuffixes w) suffix-lists suffix-reads
 
@@ -158,7 +158,7 @@ module _ (w : ℕ) where
   unfolding decodeField
   lone-reads sort = field-reads sort deepest (baseFrom (tupleFrom w deepest)) outer-reads
 
-  inputs-spells : (sort : Sort) → Spells w (decodeFields w sort) (areFields sort deepest) (encodeFields w)
+  pub inputs-spells : (sort : Sort) → Spells w (decodeFields w sort) (areFields sort deepest) (encodeFields w)
   unfolding decodeFields decodeField
   inputs-spells sort = fields-spells sort deepest (baseFrom (tupleFrom w deepest)) outer-reads
 

@@ -16,10 +16,11 @@ use Rattle.model.specs.Tree.{elementary, tuple, field, noField, moreFiel
 use Rattle.model.specs.Parser.{got}
 use Rattle.model.specs.Reading.{parse}
 use Rattle.model.specs.Record.{isField, decode}
-use Rattle.model.specs.Answer.{writes, accepted, refused, outcome, after}
+use Rattle.model.specs.Answer.{Output, writes, refuses, accepted, refused, outcome, after}
 use Rattle.model.specs.Calls.{readOutput, readKind, kindOutput, canonicalOutput, signatureOutput, nameOutput}
 use Rattle.model.specs.Message.{messageOutput}
 use Rattle.model.specs.Deposit.{depositLine}
+use Rattle.model.specs.Full.{fullOutput}
 use Rattle.model.proofs.Evaluation.{evaluation}
 
 -- document 01's record of `function f(uint a)`
@@ -165,3 +166,19 @@ component-or-suffix = (refl, refl, refl, refl, refl, refl, refl, refl)
 too-crowded : (outcome 1000 (kindOutput (ascii "(x((((((((((((((((((((((((((((((((")) ≡ refused 10 33) × (outcome 1000 (kindOutput (ascii "())))((((((((((((((((((((((((((((((((((((")) ≡ refused 10 40)
 unfolding evaluation
 too-crowded = (refl, refl)
+
+-- Order 4: what is written of the record that is read of a text
+abbrev inFull : Output → Output
+inFull (writes b) = fullOutput b
+inFull (refuses w p) = refuses w p
+
+abbrev FullLine : String → String → Type 0
+FullLine t u = inFull (readOutput call.General (ascii t)) ≡ writes (ascii u)
+
+full-functions : FullLine "function f ( uint  a , bool ) external view returns ( string memory )" "function f(uint256 a,bool) view returns (string memory)" × FullLine "function f() returns ()" "function f()" × FullLine "function f() public" "function f()" × FullLine "function returns(uint returns) pure returns(bool pure)" "function returns(uint256 returns) pure returns (bool pure)"
+unfolding evaluation
+full-functions = (refl, refl, refl, refl)
+
+full-others : FullLine "constructor ( ) payable ;" "constructor() payable" × FullLine "event e(uint a, (uint indexed, string memory) indexed t) anonymous" "event e(uint256 a,(uint256 indexed,string memory) indexed t) anonymous" × FullLine "error e(() [2 ] a, bytes)" "error e(()[2] a,bytes)"
+unfolding evaluation
+full-others = (refl, refl, refl)
