@@ -18,7 +18,7 @@ ghost use Rattle.model.specs.Calls.{canonicalOutput, signatureOutput, kindTextO
 
 // Each writer writes at o and answers the place behind.
 
-fn write_word(out: &mut [u8], o: usize, word: &[u8]) -> usize
+pub fn write_word(out: &mut [u8], o: usize, word: &[u8]) -> usize
     requires { ⌜ o + length (now word) ≤ length (now out) ⌝ }
     ensures { λ r. ⌜ (now (out .exit) ≡ put o (now (word .entry)) (now (out .entry))) × (r ≡ o + length (now (word .entry))) ⌝ }
 {
@@ -136,7 +136,7 @@ fn write_suffix(k: usize, body: &[u8], out: &mut [u8], o: usize) -> usize
 }
 
 // The suffixes up to the end, innermost first.
-fn write_suffixes(b: &[u8], out: &mut [u8], o: usize) -> usize
+pub fn write_suffixes(b: &[u8], out: &mut [u8], o: usize) -> usize
     requires { ⌜ Room (suffixesFrom (now b)) o (now out) ⌝ }
     ensures { λ r. ⌜ Wrote (suffixesFrom (now (b .entry))) o (now (out .entry)) (now (out .exit)) r ⌝ }
 {
@@ -152,7 +152,7 @@ fn write_suffixes(b: &[u8], out: &mut [u8], o: usize) -> usize
 }
 
 // A base and its suffixes: "writing a kind goes down through its tuples".
-fn write_kind(t: &[u8], out: &mut [u8], o: usize) -> usize
+pub fn write_kind(t: &[u8], out: &mut [u8], o: usize) -> usize
     requires { ⌜ KindRoom (now t) o (now out) ⌝ }
     ensures { λ r. ⌜ KindWrote (now (t .entry)) o (now (out .entry)) (now (out .exit)) r ⌝ }
 {
@@ -205,7 +205,7 @@ fn write_fields(b: &[u8], out: &mut [u8], o: usize) -> usize
 
 // Lines.
 
-fn refused(refusal: Refusal) -> Answer
+pub fn refused(refusal: Refusal) -> Answer
     ensures { λ r. ⌜ r ≡ Answer.Refused refusal 0 ⌝ }
 {
     Answer::Refused {

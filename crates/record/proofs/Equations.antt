@@ -176,7 +176,7 @@ module _ (d k : ℕ) (body : List ℕ) where
   elementary-filled u e = on-full elementaryText elementary-full (decodeElementary k body) u e
 
 -- suffixes behind a kind
-arrays-text : (k : Kind) (ss : List Suffix) → kindText (arrays k ss) ≡ kindText k ++ suffixesText ss
+pub arrays-text : (k : Kind) (ss : List Suffix) → kindText (arrays k ss) ≡ kindText k ++ suffixesText ss
 unfolding arrays suffixesText kindText
 arrays-text k [] = sym (append-nil (kindText k))
 arrays-text k (s ∷ ss) = arrays-text (array k s) ss ∙ append-assoc (kindText k) (suffixText s) (suffixesText ss)

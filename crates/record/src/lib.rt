@@ -333,7 +333,7 @@ fn front(body: &[u8], sort: Sort) -> usize
 }
 
 // The text of the fields of a list of a sort in brackets, where d tuples may nest.
-fn fields(b: &[u8], sort: Sort, d: usize) -> usize
+pub fn fields(b: &[u8], sort: Sort, d: usize) -> usize
     ensures { λ r. ⌜ (r ≡ measured (tupleTextFrom sort d (now (b .entry)))) × (r ≤ 2 * length (now (b .entry)) + 2) ⌝ }
 {
     let mut at = 0;
