@@ -1,4 +1,4 @@
--- Demand 3 and order 3 of the calls themselves: every fact about a run is one that the call's contract ensures.
+-- Demand 3 and the orders 3 and 4 of the calls themselves: every fact about a run is one that the call's contract ensures.
 -- Assumes nothing.
 use mathlib.Core.Path.{_≡_, refl, sym, _∙_, ap, ap₂}
 use mathlib.Core.Logic.{_↔_}
@@ -25,11 +25,13 @@ use Rattle.model.specs.Line.{keywordIn, canonicalText, fieldText, line}
 use Rattle.model.specs.Answer.{accepted, refused, Output, writes, needed, said, outcome, after, handed, refusalNumber}
 use Rattle.model.specs.Calls.{written, readOutput, kindOutput, canonicalOutput, kindTextOutput, AcceptedAs, AllAccepted}
 use Rattle.model.specs.Calls as calls
+use Rattle.model.specs.Full.{fullText, fullOutput, Takes}
 use Rattle.model.proofs.Records.{decode-exactly, encode-bytes}
 use Rattle.model.proofs.Sound.{read-well-formed}
 use Rattle.model.proofs.KindReads.{kind-back}
+use Rattle.model.proofs.Full.{full-back}
 use Rattle.model.proofs.Demand.{joined-texts, line-back}
-use Rattle.demand.specs.Runs.{ReadRun, KindRun, CanonicalRun, KindTextRun, LineOf, LinesOf, no-text, one-text, endToEnd, lineText, ReadBack, KindReadBack}
+use Rattle.demand.specs.Runs.{ReadRun, KindRun, CanonicalRun, FullRun, KindTextRun, LineOf, LinesOf, no-text, one-text, endToEnd, lineText, ReadBack, KindReadBack}
 
 -- what an answer says is one thing
 accepted-same : {m n : ℕ} → accepted m ≡ accepted n → m ≡ n
@@ -205,3 +207,17 @@ module _ (b : List ℕ) (f : Field) (bytes : Bytes b) (says : decodeLone b ≡ s
             let g = enough _ (take m left) w room₂ left₂ r₂ (q .says) (q .leaves) j in
             (g, ran _ (take m left) w room₂ left₂ r₂ (q .says) (q .leaves) (length (take m left)) g .1);
       }
+
+-- Order 4: "Read again, a line of at most 4,096 bytes gives the identical record." The bytes b are a well-formed declaration's record, of which the full
+-- text call wrote the line; it is read by the general call or the call named for its keyword, lent at least as many bytes as the record has
+module _ (b : List ℕ) (d : Declaration) (bytes : Bytes b) (says : decode b ≡ some d) (room left : List ℕ) (r : Answer) (m : ℕ) (run : FullRun b room left r) (wrote : said r ≡ accepted m) where
+  full-is : take m left ≡ fullText d
+  unfolding fullOutput
+  full-is = ran (fullOutput b) (fullText d) (rw (fullOutput, says)) room left r (run .says) (run .leaves) m wrote .1
+
+  pub full-reads-back : length (take m left) ≤ longestText → (c : Call) → Takes (keywordIn d) c → (room₁ left₁ : List ℕ) (r₁ : Answer) → length b ≤ length room₁
+      → ReadRun c (take m left) room₁ left₁ r₁ → (said r₁ ≡ accepted (length b)) × (take (length b) left₁ ≡ b)
+  full-reads-back h c t room₁ left₁ r₁ k run₁ =
+      let here : readOutput c (take m left) ≡ writes b = ap (readOutput c) full-is ∙ full-back b d c t bytes says (rw full-is at h) in
+      let e = enough (readOutput c (take m left)) b here room₁ left₁ r₁ (run₁ .says) (run₁ .leaves) k in
+      (e, ran (readOutput c (take m left)) b here room₁ left₁ r₁ (run₁ .says) (run₁ .leaves) (length b) e .1)

@@ -1,5 +1,5 @@
--- Runs of the calls: what a call was lent, what it answered and what it left, in the form that its contract ensures; and what demand 3 and order 3
--- say of them.
+-- Runs of the calls: what a call was lent, what it answered and what it left, in the form that its contract ensures; and what demand 3 and the
+-- orders 3 and 4 say of them.
 -- Assumes nothing.
 use mathlib.Core.Path.{_≡_}
 use mathlib.Core.List.{List, [], _∷_, _++_}
@@ -18,6 +18,7 @@ use Rattle.model.specs.Record.{decode, decodeLone}
 use Rattle.model.specs.Line.{keywordIn}
 use Rattle.model.specs.Answer.{accepted, said, outcome, after, handed, refusalNumber}
 use Rattle.model.specs.Calls.{readOutput, kindOutput, canonicalOutput, kindTextOutput, nameOutput, AcceptedAs}
+use Rattle.model.specs.Full.{fullOutput}
 
 -- a reading call on a text, which was lent `room` and left it as `left`
 pub record ReadRun (c : Call) (text room left : List ℕ) (r : Answer) : Type 0 where
@@ -33,6 +34,11 @@ pub record KindRun (text room left : List ℕ) (r : Answer) : Type 0 where
 pub record CanonicalRun (b room left : List ℕ) (r : Answer) : Type 0 where
   pub says : said r ≡ outcome (length room) (canonicalOutput b)
   pub leaves : left ≡ after room (canonicalOutput b)
+
+-- the full text call on a record
+pub record FullRun (b room left : List ℕ) (r : Answer) : Type 0 where
+  pub says : said r ≡ outcome (length room) (fullOutput b)
+  pub leaves : left ≡ after room (fullOutput b)
 
 -- the kind-text call on a record
 pub record KindTextRun (b room left : List ℕ) (r : Answer) : Type 0 where

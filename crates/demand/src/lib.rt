@@ -1,8 +1,8 @@
-// The calls that demand 3 and order 3 speak of, each with its contract in the form in which the theorems of proofs/Demand.antt take it: that it has that
-// form is what is proved here.
+// The calls that demand 3, order 3 and order 4 speak of, each with its contract in the form in which the theorems of proofs/Demand.antt take it: that it has
+// that form is what is proved here.
 use model::Answer;
 use model::Call;
-ghost use Rattle.demand.specs.Runs.{ReadRun, KindRun, CanonicalRun, KindTextRun, NameRun};
+ghost use Rattle.demand.specs.Runs.{ReadRun, KindRun, CanonicalRun, FullRun, KindTextRun, NameRun};
 
 pub fn parse_declaration(text: &[u8], record: &mut [u8]) -> Answer
     ensures { λ r. ⌜ ReadRun Call.General (now (text .entry)) (now («record» .entry)) (now («record» .exit)) r ⌝ }
@@ -14,6 +14,12 @@ pub fn parse_function(text: &[u8], record: &mut [u8]) -> Answer
     ensures { λ r. ⌜ ReadRun Call.Function (now (text .entry)) (now («record» .entry)) (now («record» .exit)) r ⌝ }
 {
     declaration::parse_function(text, record)
+}
+
+pub fn parse_constructor(text: &[u8], record: &mut [u8]) -> Answer
+    ensures { λ r. ⌜ ReadRun Call.Constructor (now (text .entry)) (now («record» .entry)) (now («record» .exit)) r ⌝ }
+{
+    declaration::parse_constructor(text, record)
 }
 
 pub fn parse_event(text: &[u8], record: &mut [u8]) -> Answer
@@ -38,6 +44,12 @@ pub fn canonical(record: &[u8], text: &mut [u8]) -> Answer
     ensures { λ r. ⌜ CanonicalRun (now («record» .entry)) (now (text .entry)) (now (text .exit)) r ⌝ }
 {
     abi::canonical(record, text)
+}
+
+pub fn full_text(record: &[u8], text: &mut [u8]) -> Answer
+    ensures { λ r. ⌜ FullRun (now («record» .entry)) (now (text .entry)) (now (text .exit)) r ⌝ }
+{
+    full::full_text(record, text)
 }
 
 pub fn kind_text(record: &[u8], text: &mut [u8]) -> Answer

@@ -6,6 +6,7 @@ ghost use mathlib.Core.Path.{_≡_};
 ghost use lib.ListN.{length};
 ghost use Rattle.model.specs.Answer.{writes, said, outcome, after};
 ghost use Rattle.model.specs.Calls.{readOutput, kindOutput, canonicalOutput, signatureOutput, kindTextOutput, nameOutput};
+ghost use Rattle.model.specs.Full.{fullOutput};
 ghost use Rattle.model.specs.Message.{messageOutput};
 ghost use Rattle.geusomin.specs.Told.{code, worth};
 
@@ -113,6 +114,15 @@ pub extern "C" fn geusomin_kind_text(record: &[u8], text: &mut [u8], value: &mut
     ensures left { λ _. ⌜ now (text .exit) ≡ after (now (text .entry)) (kindTextOutput (now («record» .entry))) ⌝ }
 {
     tell(abi::kind_text(record, text), value)
+}
+
+#[no_mangle]
+pub extern "C" fn geusomin_full_text(record: &[u8], text: &mut [u8], value: &mut usize) -> u32
+    ensures tells { λ r. ⌜ r ≡ code (outcome (length (now (text .entry))) (fullOutput (now («record» .entry)))) ⌝ }
+    ensures shows { λ _. ⌜ now (value .exit) ≡ worth (outcome (length (now (text .entry))) (fullOutput (now («record» .entry)))) ⌝ }
+    ensures left { λ _. ⌜ now (text .exit) ≡ after (now (text .entry)) (fullOutput (now («record» .entry))) ⌝ }
+{
+    tell(full::full_text(record, text), value)
 }
 
 // A part, copied whole or not at all.
