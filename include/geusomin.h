@@ -26,7 +26,7 @@
 extern "C" {
 #endif
 
-#define GEUSOMIN_VERSION "0.3.0"
+#define GEUSOMIN_VERSION "0.4.0"
 
 /* A text of more than GEUSOMIN_TEXT_MAX bytes is refused with 8. A record of more than GEUSOMIN_RECORD_MAX bytes is not
    well formed, and a reading call writes at most 10 bytes for each byte of its text, so a buffer of GEUSOMIN_RECORD_MAX
@@ -167,6 +167,14 @@ uint32_t geusomin_canonical(const uint8_t *record, size_t record_len, uint8_t *t
 
 /* Of a function: canonical text, `:`, and the outputs in brackets. Refusals: 15, 16, 20. */
 uint32_t geusomin_signature(const uint8_t *record, size_t record_len, uint8_t *text, size_t room, size_t *value);
+
+/* The full line of a declaration, a constructor too: the keyword; a space and the name, of a constructor none; the list; a
+   space and the mutability word unless none is stated; ` returns ` and the list if there are outputs; ` anonymous` where it
+   is set. A field is its kind, spelled as in canonical text, then a space and the word of its mark if it has one, then a
+   space and its name if it has one. A tuple's components are written so, and fields are parted by `,`. A line of at most
+   GEUSOMIN_TEXT_MAX bytes is read by the general call, and by the one named for its keyword, as this very record; a longer
+   one is written, and refused with 8 where it is read. Refusals: 15, 20. */
+uint32_t geusomin_full_text(const uint8_t *record, size_t record_len, uint8_t *text, size_t room, size_t *value);
 
 /* The kind of a field, as canonical text has it. Refusals: 15, 20. */
 uint32_t geusomin_kind_text(const uint8_t *record, size_t record_len, uint8_t *text, size_t room, size_t *value);
