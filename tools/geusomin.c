@@ -39,6 +39,7 @@ static const struct {
     {"kind_text", geusomin_kind_text},
     {"canonical", geusomin_canonical},
     {"signature", geusomin_signature},
+    {"full", geusomin_full_text},
     {"name", geusomin_copy_name},
     {"message:general", geusomin_message_declaration},
     {"message:function", geusomin_message_function},
@@ -320,15 +321,16 @@ static struct bytes judged(struct bytes line)
     return line;
 }
 
-/* The canonical text, `-` for a constructor. */
-static void print_canonical(struct bytes record)
+/* The canonical text, `-` for a constructor; or the full line, which a constructor has too. */
+static void print_line(struct bytes record, bool full)
 {
     static uint8_t text[GEUSOMIN_LINE_MAX];
+    call *write_line = full ? geusomin_full_text : geusomin_canonical;
     size_t length;
 
-    if (record_kind_of(record.at) == GEUSOMIN_CONSTRUCTOR)
+    if (!full && record_kind_of(record.at) == GEUSOMIN_CONSTRUCTOR)
         print_text("-");
-    else if (geusomin_canonical(record.at, record.length, text, sizeof text, &length) == 0)
+    else if (write_line(record.at, record.length, text, sizeof text, &length) == 0)
         print(text, length);
     else
         stop(FAILED, "the library", "a record that was read is refused");
@@ -355,7 +357,7 @@ static void print_refusal(uint32_t number, size_t position)
     print_number(position);
 }
 
-static void print_deposit(struct bytes text)
+static void print_deposit(struct bytes text, bool full)
 {
     static uint8_t record[GEUSOMIN_RECORD_MAX];
     size_t value;
@@ -367,7 +369,7 @@ static void print_deposit(struct bytes text)
         print_text(" ");
         print_number(value);
         print_text(" ");
-        print_canonical((struct bytes){record, value});
+        print_line((struct bytes){record, value}, full);
     } else {
         print_refusal(refusal, value);
         print_message(text);
@@ -377,19 +379,23 @@ static void print_deposit(struct bytes text)
     tally.by_number[refusal]++;
 }
 
-static enum status print_deposits(char **files, bool check, bool quiet)
+struct options {
+    bool check, full, quiet;
+};
+
+static enum status print_deposits(char **files, struct options options)
 {
     struct bytes line;
 
-    tally.watched = !quiet && isatty(STDERR_FILENO);
+    tally.watched = !options.quiet && isatty(STDERR_FILENO);
     tally.started = tally.told = seconds();
     input.files = files;
     while (next_line(&line))
-        print_deposit(judged(line));
+        print_deposit(judged(line), options.full);
     close_output();
-    if (!quiet)
+    if (!options.quiet)
         tell_summary();
-    return check && tally.by_number[0] < tally.lines ? REFUSED : ANSWERED;
+    return options.check && tally.by_number[0] < tally.lines ? REFUSED : ANSWERED;
 }
 
 /* Replay. The lent buffer is filled beforehand and reaches past the room that is lent. */
@@ -480,6 +486,8 @@ static struct bytes decoded(struct bytes hex)
         stop_replay("no bytes are given");
     if (!is(hex, "-") && hex.length % 2 != 0)
         stop_replay("the bytes are not in pairs of digits");
+    for (size_t i = 0; i < 2 * length; i++)
+        digit_of(hex.at[i]); /* what is none ends the program before there is a block */
     block = allocate(length);
     for (size_t i = 0; i < length; i++)
         block[i] = (uint8_t)(digit_of(hex.at[2 * i]) << 4 | digit_of(hex.at[2 * i + 1]));
@@ -628,6 +636,7 @@ static enum status bench(char **file)
     time_call("general", geusomin_parse_declaration, &texts);
     time_call("canonical", geusomin_canonical, &lined);
     time_call("signature", geusomin_signature, &functions);
+    time_call("full", geusomin_full_text, &lined);
     close_output();
     return ANSWERED;
 }
@@ -635,7 +644,7 @@ static enum status bench(char **file)
 /* The command line. */
 
 static const char usage[] =
-    "usage: geusomin [--check] [--quiet] [FILE..]\n"
+    "usage: geusomin [--check] [--full] [--quiet] [FILE..]\n"
     "       geusomin replay\n"
     "       geusomin bench FILE\n"
     "       geusomin --help | --version\n";
@@ -650,13 +659,14 @@ static const char about[] =
     "and how many it answered a second; a terminal is told once a second how many there were so far.\n"
     "\n"
     "  --check      exit with status 3 where a line was refused\n"
+    "  --full       print the full line, names and mark words included, in place of the canonical one; a constructor's too\n"
     "  --quiet      tell nothing on standard error but failures\n"
     "  --           what follows are files\n"
     "  --help       print this\n"
     "  --version    print the version\n"
     "  replay       read lines `CALL HEX ROOM` from standard input and print `ok HEX` or `no NUMBER POSITION` for each. HEX\n"
     "               is in lower case, `-` for no bytes; ROOM is how many bytes the call is lent, `-` for the most, 131072\n"
-    "  bench FILE   time the general, canonical and signature calls over a file of declarations\n"
+    "  bench FILE   time the general, canonical, signature and full calls over a file of declarations\n"
     "\n"
     "A first argument `replay` or `bench` is the command; ./bench names the file.\n"
     "\n"
@@ -708,18 +718,21 @@ static enum status misused(const char *argument, const char *why)
 /* Options may stand before, between and behind the files, up to `--`. The files are moved to the front of the arguments. */
 static enum status read_files(char **arguments)
 {
-    bool check = false, quiet = false, options = true;
+    struct options options = {false, false, false};
+    bool in_front = true; /* of `--` */
     char **files = arguments, **last = arguments;
 
     for (char *argument; (argument = *arguments) != NULL; arguments++) {
-        if (!options || argument[0] != '-' || strcmp(argument, "-") == 0)
+        if (!in_front || argument[0] != '-' || strcmp(argument, "-") == 0)
             *last++ = argument;
         else if (strcmp(argument, "--") == 0)
-            options = false;
+            in_front = false;
         else if (strcmp(argument, "--check") == 0)
-            check = true;
+            options.check = true;
+        else if (strcmp(argument, "--full") == 0)
+            options.full = true;
         else if (strcmp(argument, "--quiet") == 0)
-            quiet = true;
+            options.quiet = true;
         else if (strcmp(argument, "--help") == 0)
             return help();
         else if (strcmp(argument, "--version") == 0)
@@ -728,7 +741,7 @@ static enum status read_files(char **arguments)
             return misused(argument, "no such option");
     }
     *last = NULL;
-    return print_deposits(last > files ? files : standard_input, check, quiet);
+    return print_deposits(last > files ? files : standard_input, options);
 }
 
 int main(int argc, char **argv)
