@@ -4,8 +4,9 @@ The Rust's list says what is read of a text, and canonical text and signature of
 fields stand in the canonical text and the signature. The Rust forgets place words, so its records say nothing of them; the
 marks that stand for them are order 1's. The Rust reads no visibility words: a text with one is read as the text without it,
 and refused where order 2 says. The text of a field's kind is read again as that kind, as order 3 says, which is the field
-without its names. What of records is wrong, and with which refusal, is document 01's and order 1's; the limits of texts are
-document 01's and, of kind texts, order 3's.
+without its names. A declaration is written out by order 4's sentence, and its full line is read again as the very record. What
+of records is wrong, and with which refusal, is document 01's and order 1's; the limits of texts are document 01's and, of kind
+texts, order 3's.
 """
 import itertools
 import re
@@ -17,9 +18,13 @@ WORDS = dict(enumerate((b"int", b"uint", b"address", b"bool", b"bytes", b"functi
 KEYWORDS = {FUNCTION: "function", CONSTRUCTOR: "constructor", EVENT: "event", ERROR: "error"}
 UNMARKED, INDEXED, CALLDATA, MEMORY = range(4)
 LOCATIONS = {CALLDATA: b"calldata", MEMORY: b"memory"}
+MARK_WORDS = {UNMARKED: b"", INDEXED: b"indexed", **LOCATIONS}
+MUTABILITIES = dict(enumerate((b"pure", b"view", b"", b"payable")))
+ANONYMOUS = 1
 VISIBILITIES = ("external", "public")
 MOST_BYTES = 4096
-RECORD_CALLS = ("canonical", "signature", "kind_text", "name")
+LONGEST_RECORD = 40960
+RECORD_CALLS = ("canonical", "signature", "full", "kind_text", "name")
 
 
 def hexed(b):
@@ -111,10 +116,15 @@ def parts(body, at):
         at, body = at + n, body[n:]
 
 
+def inside(r):
+    """A declaration's name, if it has one, and its lists, each with its place."""
+    head = 6 if kind_of(r) == ERROR else 8
+    yield from parts(r[head:], head)
+
+
 def own_fields(r):
     """The fields of a declaration's own lists, each with its place."""
-    head = 6 if kind_of(r) == ERROR else 8
-    for at, part in parts(r[head:], head):
+    for at, part in inside(r):
         if kind_of(part) == LIST:
             yield from parts(part[6:], at + 6)
 
@@ -146,6 +156,36 @@ def text_of_part(part):
     return b"[" + n + b"]" if kind in (FIXED, OPEN) else WORDS[kind] + n
 
 
+def full_line(r):
+    """A declaration written out: keyword; a space and the name (none for a constructor); the list; a space and the mutability word unless
+    none is stated; ` returns ` and the list if there are outputs; ` anonymous` where set."""
+    kind, stated = kind_of(r), int.from_bytes(r[6:8], "little")
+    names = [part[6:] for _, part in inside(r) if kind_of(part) == NAME]
+    inputs, *outputs = (full_list(part) for _, part in inside(r) if kind_of(part) == LIST)
+    line = KEYWORDS[kind].encode() + b"".join(map(spaced, names)) + inputs
+    if kind in (FUNCTION, CONSTRUCTOR):
+        line += spaced(MUTABILITIES[stated])
+    line += b"".join(b" returns " + listed for listed in outputs if listed != b"()")
+    return line + (b" anonymous" if kind == EVENT and stated == ANONYMOUS else b"")
+
+
+def spaced(word):
+    """A space and the word, if there is one."""
+    return b" " + word if word else b""
+
+
+def full_list(r):
+    """Of a list or a tuple: fields are parted by `,`."""
+    return b"(" + b",".join(full_field(one) for _, one in parts(r[6:], 6)) + b")"
+
+
+def full_field(r):
+    """A field is its kind, then a space and its mark word if any, then a space and its name if any. A tuple's components are written so."""
+    (_, name), *kind = parts(r[8:], 8)
+    texts = (full_list(part) if kind_of(part) == TUPLE else text_of_part(part) for _, part in kind)
+    return b"".join(texts) + spaced(MARK_WORDS[mark_of(r)]) + spaced(name[6:])
+
+
 def heads(r, at=0):
     """Where the heads of a record and of the records in it stand."""
     yield at
@@ -175,7 +215,7 @@ def of_field(r, text):
     whole, (_, name) = mark_of(r) == UNMARKED, next(parts(r[8:], 8))
     yield from answered("kind_text", r, text if whole else NOT_WELL_FORMED)
     yield from answered("name", r, name[6:] if whole else NOT_WELL_FORMED)
-    for call in ("canonical", "signature"):
+    for call in ("canonical", "signature", "full"):
         yield from refused(call, r, NOT_WELL_FORMED)
     if not whole:
         yield from of_field(r[:6] + number(UNMARKED, 2) + r[8:], text)
@@ -192,12 +232,22 @@ def read_again(r, text):
         yield from written("kind_text", bare(r), text)
 
 
+def of_full_line(r):
+    """Order 4: a declaration's full line is read as the very record, by the general call and by the one named for its keyword. One that is
+    too long for them is written nevertheless."""
+    line = full_line(r)
+    yield from written("full", r, line)
+    for call in ("general", KEYWORDS[kind_of(r)]):
+        yield from answered(call, line, r if len(line) <= MOST_BYTES else "no 8 0")
+
+
 def of_declaration(r, canonical, signature):
     kind = kind_of(r)
     yield from answered("canonical", r, WRONG_SORT if kind == CONSTRUCTOR else canonical)
     yield from answered("signature", r, signature if kind == FUNCTION else WRONG_SORT)
     yield from answered("name", r, WRONG_SORT if kind == CONSTRUCTOR else canonical[:canonical.index(b"(")])
     yield from refused("kind_text", r, NOT_WELL_FORMED)
+    yield from of_full_line(r)
     fields = [one for _, one in own_fields(r)]
     kinds = [text_of(one) for one in fields]
     if kind != CONSTRUCTOR:
@@ -259,8 +309,8 @@ def of_row(row):
         yield from of_visible(call, text, r)
 
 
-def line_of_row(row):
-    """A text without line feeds, and what the program prints of it; or nothing."""
+def line_of_row(row, full=False):
+    """A text without line feeds, and what the program prints of it, with its full line or its canonical one; or nothing."""
     call, given, verdict, *rest = row.split()
     text = unhexed(given)
     if call != "general" or b"\n" in text:
@@ -269,7 +319,7 @@ def line_of_row(row):
         message = message_of_row(row)
         return text, f"no {rest[0]} {rest[1]}".encode() + (b"\t" + message if message else b"")
     r, canonical = unhexed(rest[0]), unhexed(rest[1])
-    return text, b"ok %s %d %s" % (KEYWORDS[kind_of(r)].encode(), len(r), canonical or b"-")
+    return text, b"ok %s %d %s" % (KEYWORDS[kind_of(r)].encode(), len(r), full_line(r) if full else canonical or b"-")
 
 
 # Visibility words, put into texts that the Rust reads without them.
@@ -386,7 +436,7 @@ def damaged():
 def longest(over):
     """A function's record of 40,960 bytes and some more."""
     empty = len(function(name=b""))
-    return function(name=b"f" * (40960 - empty + over))
+    return function(name=b"f" * (LONGEST_RECORD - empty + over))
 
 
 def of_records():
@@ -475,6 +525,77 @@ def of_place_words():
     yield from of_refused_text(b"function f(address memory a)", "function", 3, 26)
     yield from of_refused_text(b"function f(string storage memory)", "function", 3, 26)
     yield from of_refused_text(b"function f(string memory 1)", "function", 3, 25)
+
+
+# Declarations written out, of which the Rust says nothing.
+
+NAMES = (b"returns", b"pure", b"view", b"payable", b"memory", b"calldata", b"indexed", b"anonymous", b"function", b"constructor", b"event",
+         b"error", b"external", b"public", b"uint256")  # words that stand elsewhere in a declaration
+
+
+def of_full_lines():
+    """Lines written by hand, as order 4 has them."""
+    pair = record(TUPLE, field(UINT, b"indexed"), field(STRING, b"memory"))
+    twice, any_number = record(FIXED, number(2, 8)), record(OPEN)
+    for text, r, line in (
+        (b"function f ( uint  a , bool ) external view returns ( string memory )",
+         function(field(UINT, b"a"), field(BOOL), mutability=1, outputs=[field(STRING, mark=MEMORY)]),
+         b"function f(uint256 a,bool) view returns (string memory)"),
+        (b"function f() returns ()", function(), b"function f()"),
+        (b"function f() public", function(), b"function f()"),
+        (b"constructor ( ) payable ;", constructor(mutability=3), b"constructor() payable"),
+        (b"event e(uint a, (uint indexed, string memory) indexed t) anonymous",
+         event(field(UINT, b"a"), field(pair, b"t", INDEXED), anonymous=ANONYMOUS, name=b"e"),
+         b"event e(uint256 a,(uint256 indexed,string memory) indexed t) anonymous"),
+        (b"function returns(uint returns) pure returns(bool pure)",
+         function(field(UINT, b"returns"), mutability=0, name=b"returns", outputs=[field(BOOL, b"pure")]),
+         b"function returns(uint256 returns) pure returns (bool pure)"),
+        (b"constructor((uint indexed,string memory)[2][]calldata function)",
+         constructor(field(pair, b"function", CALLDATA, twice + any_number)),
+         b"constructor((uint256 indexed,string memory)[2][] calldata function)"),
+        (b"error E( ( ) [ ] [2 ] , ( ) a )", error(field(EMPTY, suffixes=any_number + twice), field(EMPTY, b"a")), b"error E(()[][2],() a)"),
+        (b"event E(bytes32 indexed);", event(field(BYTES32, mark=INDEXED)), b"event E(bytes32 indexed)"),
+        (b"function f(function function)external payable", function(field(CODE, b"function"), mutability=3), b"function f(function function) payable"),
+        (b"function f()view public returns(((bytes a)b)memory memory)",
+         function(mutability=1, outputs=[field(record(TUPLE, field(record(TUPLE, field(BYTES, b"a")), b"b")), b"memory", MEMORY)]),
+         b"function f() view returns (((bytes a) b) memory memory)"),
+    ):
+        assert line == full_line(r)
+        for call in ("general", KEYWORDS[kind_of(r)]):
+            yield from written(call, text, r)
+        yield from of_full_line(r)
+
+
+def of_named():
+    """Names that are words: of declarations, of fields with a mark and without, and of fields in tuples; with all that may stand behind."""
+    for name in NAMES:
+        pair = record(TUPLE, field(UINT, name), field(record(TUPLE, field(STRING, name)), name, suffixes=record(OPEN)))
+        plain = [field(BOOL, name), field(record(TUPLE, field(pair, name)))]
+        located = [field(STRING, name, MEMORY), field(pair, name, CALLDATA, record(FIXED, number(7, 8))), field(EMPTY, b"", MEMORY)]
+        indexed = [field(kind, named, INDEXED) for kind in (UINT, STRING, pair) for named in (b"", name)]
+        for mutability, outputs in itertools.product(MUTABILITIES, ([], plain, plain + located)):
+            yield from of_full_line(function(*located, *plain, mutability=mutability, name=name, outputs=outputs))
+        for mutability in (2, 3):
+            yield from of_full_line(constructor(*plain, *located, mutability=mutability))
+        for anonymous in (0, ANONYMOUS):
+            yield from of_full_line(event(*indexed, plain[1], anonymous=anonymous, name=name))
+        yield from of_full_line(error(*plain, field(pair, name), name=name))
+
+
+def of_long_lines():
+    """Lines of 4,096 bytes and one more; one of a longest record, full of the longest suffixes; and tuples 32 deep that each have a name."""
+    for build, over in itertools.product((function, constructor, event, error), (0, 1)):
+        rest = MOST_BYTES - len(full_line(build(field(BOOL)))) - 1
+        r = build(field(BOOL, b"a" * (rest + over)))
+        assert len(full_line(r)) == MOST_BYTES + over
+        yield from of_full_line(r)
+    suffix, empty = record(FIXED, number(2 ** 64 - 1, 8)), len(error(field(UINT)))
+    count, rest = divmod(LONGEST_RECORD - empty, len(suffix))
+    yield from of_full_line(error(field(UINT, b"a" * rest, suffixes=suffix * count)))
+    kind = BOOL
+    for _ in range(32):
+        kind = record(TUPLE, field(kind, b"memory"))
+    yield from of_full_line(function(field(kind, b"memory", MEMORY), outputs=[field(kind, b"returns")]))
 
 
 # Texts with visibility words, which the Rust does not read.

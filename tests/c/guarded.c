@@ -133,6 +133,7 @@ static const struct {
     {"kind_text", geusomin_kind_text},
     {"canonical", geusomin_canonical},
     {"signature", geusomin_signature},
+    {"full", geusomin_full_text},
     {"name", geusomin_copy_name},
     {"message:general", geusomin_message_declaration},
     {"message:function", geusomin_message_function},

@@ -86,7 +86,7 @@ def named(header):
 
 def call_of(function):
     """The name that `replay` has for a C function."""
-    call = function.replace("parse_", "").replace("copy_", "").replace("message_", "message:")
+    call = function.replace("parse_", "").replace("copy_", "").replace("full_text", "full").replace("message_", "message:")
     return call.replace("declaration", "general")
 
 

@@ -18,6 +18,7 @@ import header
 F, E = b"function f(uint a)", b"event E()"
 F_ANSWER = b"ok function %d f(uint256)\n" % len(cases.function(cases.field(cases.UINT, b"a")))
 E_ANSWER = b"ok event %d E()\n" % len(cases.event())
+F_FULL = F_ANSWER.replace(b"f(uint256)", b"function f(uint256 a)")
 BAD = b"function f(uin)"
 BAD_ANSWER = b"no 3 11\t" + cases.message("general", BAD, 3, 11) + b"\n"
 RATE = rb", \d+(\.\d million)? lines a second\n"
@@ -169,7 +170,7 @@ def answers_are_out_before_the_next_line_is_awaited(program):
 def help_and_version_go_to_standard_output(program):
     status, printed, told = run([program, "--help"])
     same((status, told), (0, b""))
-    for word in ("usage: geusomin", "--check", "--quiet", "--version", "replay", "bench FILE", "Status:"):
+    for word in ("usage: geusomin", "--check", "--full", "--quiet", "--version", "replay", "bench FILE", "Status:"):
         assert word in printed.decode(), word
     words = header.document_words(TOP)
     same(printed.decode().split("Refusals:\n")[1].splitlines(), [f"{number:4} {words[number]}" for number in sorted(words)])
@@ -182,6 +183,48 @@ def check_tells_a_refusal_by_the_status(program):
     summed(run([program, "--check"], F + b"\n" + BAD), 3, F_ANSWER + BAD_ANSWER, b"2 lines, 1 accepted, 1 refused (3: 1)")
     summed(run([program, "--check"], F), 0, F_ANSWER, b"1 line, 1 accepted, 0 refused")
     summed(run([program], BAD), 0, BAD_ANSWER, b"1 line, 0 accepted, 1 refused (3: 1)")
+
+
+@test
+def full_prints_full_lines(program):
+    string, a = cases.field(cases.STRING, mark=cases.MEMORY), cases.field(cases.UINT, b"a")
+    texts, lines, printed = b"", b"", b""
+    for text, r, line in (
+        (b"function f ( uint  a ) external view returns ( string memory )", cases.function(a, mutability=1, outputs=[string]),
+         b"function f(uint256 a) view returns (string memory)"),
+        (b"constructor ( string  memory ) payable ;", cases.constructor(string, mutability=3), b"constructor(string memory) payable"),
+        (b"constructor()", cases.constructor(), b"constructor()"),
+        (b"event E(uint a)anonymous", cases.event(a, anonymous=cases.ANONYMOUS), b"event E(uint256 a) anonymous"),
+        (b"error E()", cases.error(), b"error E()"),
+    ):
+        texts, lines = texts + text + b"\n", lines + line + b"\n"
+        printed += b"ok %s %d %s\n" % (cases.KEYWORDS[cases.kind_of(r)].encode(), len(r), line)
+    for given in (texts, lines):
+        summed(run([program, "--full"], given), 0, printed, b"5 lines, 5 accepted, 0 refused")
+
+
+@test
+def full_stands_with_other_options(program):
+    pathlib.Path("a").write_bytes(F)
+    pathlib.Path("--full").write_bytes(F)
+    summed(run([program, "--full"], F + b"\n" + BAD), 0, F_FULL + BAD_ANSWER, b"2 lines, 1 accepted, 1 refused (3: 1)")
+    summed(run([program, "a", "--check", "-", "--full"], BAD), 3, F_FULL + BAD_ANSWER, b"2 lines, 1 accepted, 1 refused (3: 1)")
+    summed(run([program, "--full", "--full", "--check", "a"]), 0, F_FULL, b"1 line, 1 accepted, 0 refused")
+    summed(run([program, "--", "--full"]), 0, F_ANSWER, b"1 line, 1 accepted, 0 refused")
+    summed(run([program, "--full", "--", "--full"]), 0, F_FULL, b"1 line, 1 accepted, 0 refused")
+    failed(run([program, "--full", "a", "missing"]), "missing", errno.ENOENT, F_FULL)
+    misused(run([program, "--ful"]), "--ful: no such option")
+    misused(run([program, "replay", "--full"]), "replay: takes no argument")
+
+
+@test
+def a_full_line_may_be_longer_than_the_text(program):
+    text = b"function f(" + b"int," * 1000 + b"int)"
+    line = text.replace(b"int", b"int256")
+    assert len(text) <= cases.MOST_BYTES < len(line)
+    answer = b"ok function %d %s\n" % (len(cases.function(*[cases.field(cases.UINT)] * 1001)), line)
+    summed(run([program, "--full"], text), 0, answer, b"1 line, 1 accepted, 0 refused")
+    summed(run([program, "--full"], line), 0, b"no 8 0\n", b"1 line, 0 accepted, 1 refused (8: 1)")
 
 
 @test
@@ -250,7 +293,7 @@ def a_line_that_was_not_read_to_its_end_is_not_answered(program):
 
 # Output that fails.
 
-COMMANDS = (["--help"], ["--version"], ["a"], ["--check", "--quiet", "a"], ["replay"], ["bench", "a"])
+COMMANDS = (["--help"], ["--version"], ["a"], ["--full", "a"], ["--check", "--quiet", "a"], ["replay"], ["bench", "a"])
 CALL = b"general - -\n"
 
 
@@ -321,12 +364,13 @@ def malformed_calls_end_replay(program):
 
 
 @test
-def bench_times_three_calls(program):
+def bench_times_four_calls(program):
     pathlib.Path("a").write_bytes(F + b"\n" + E + b"\nconstructor()\n" + BAD)
     status, printed, told = run([program, "bench", "a"])
     same((status, told), (0, b""))
     row = r": {} inputs of \d+ bytes on average, \d+ ns each\n"
-    assert re.fullmatch("general" + row.format(4) + "canonical" + row.format(2) + "signature" + row.format(1), printed.decode()), printed
+    timed = (("general", 4), ("canonical", 2), ("signature", 1), ("full", 2))
+    assert re.fullmatch("".join(call + row.format(count) for call, count in timed), printed.decode()), printed
 
 
 # A terminal.
