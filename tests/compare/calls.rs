@@ -31,7 +31,8 @@ calls! {
         "canonical" geusomin_canonical
         "signature" geusomin_signature
         "kind_text" geusomin_kind_text
-        "name" geusomin_copy_name;
+        "name" geusomin_copy_name
+        "full" geusomin_full_text;
     MESSAGES:
         "message:general" geusomin_message_declaration
         "message:function" geusomin_message_function

@@ -176,7 +176,7 @@ pub fn sort_of(declaration: u16) -> Sort {
 }
 
 /// Takes a record off: its kind and its body.
-fn next<'a>(rest: &mut &'a [u8]) -> Option<(u16, &'a [u8])> {
+pub fn next<'a>(rest: &mut &'a [u8]) -> Option<(u16, &'a [u8])> {
     let length = u32::from_le_bytes(rest.get(..4)?.try_into().unwrap()) as usize;
     let kind = u16::from_le_bytes(rest.get(4..6)?.try_into().unwrap());
     let body = rest.get(6..length)?;
@@ -184,7 +184,7 @@ fn next<'a>(rest: &mut &'a [u8]) -> Option<(u16, &'a [u8])> {
     Some((kind, body))
 }
 
-fn number(rest: &mut &[u8]) -> Option<u16> {
+pub fn number(rest: &mut &[u8]) -> Option<u16> {
     let n = u16::from_le_bytes(rest.get(..2)?.try_into().unwrap());
     *rest = &rest[2..];
     Some(n)
@@ -256,7 +256,7 @@ fn is_mark(sort: Sort, located: bool, mark: u16, name: &[u8]) -> bool {
 }
 
 /// A kind without its suffixes; whether it admits a data location.
-fn kind(rest: &mut &[u8], nested: usize, out: &mut Vec<u8>) -> Option<bool> {
+pub fn kind(rest: &mut &[u8], nested: usize, out: &mut Vec<u8>) -> Option<bool> {
     let (kind, mut body) = next(rest)?;
     let word = match kind {
         INT => "int",
@@ -284,7 +284,7 @@ fn kind(rest: &mut &[u8], nested: usize, out: &mut Vec<u8>) -> Option<bool> {
     body.is_empty().then_some(matches!(kind, BYTES | STRING))
 }
 
-fn suffix(rest: &mut &[u8], out: &mut Vec<u8>) -> Option<()> {
+pub fn suffix(rest: &mut &[u8], out: &mut Vec<u8>) -> Option<()> {
     let (kind, body) = next(rest)?;
     match kind {
         FIXED => {

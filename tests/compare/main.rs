@@ -2,6 +2,7 @@
 //! Usage: compare [COUNT] [SEED]. Exit status 1 if a difference is on no list.
 mod calls;
 mod document;
+mod full;
 mod marks;
 mod original;
 mod random;
@@ -64,8 +65,9 @@ const LONGEST: usize = 40_960;
 /// The longest text that is read.
 const MOST_BYTES: usize = 4096;
 
-/// The place of the kind-text call in calls::WRITERS.
+/// The places of the kind-text call and of the full-text call in calls::WRITERS.
 const KIND_TEXT: usize = 2;
+const FULL: usize = 4;
 
 #[derive(Default)]
 struct Compare {
@@ -77,6 +79,7 @@ struct Compare {
     unlisted: usize,
     records: usize,
     again: usize,
+    lines: usize,
 }
 
 impl Compare {
@@ -220,6 +223,40 @@ impl Compare {
         }
     }
 
+    /// Order 4: a declaration is written out, and its line is read as the very record, by the general call
+    /// and by the one named for its keyword; the Rust reads it as that record without place words.
+    fn full(&mut self, record: &[u8]) {
+        let line = full::line(record);
+        self.check(&WRITERS[FULL], record, &Wanted::Output(&line));
+        for place in [original::GENERAL, original::NAMED + full::keyword(record)] {
+            if line.len() > MOST_BYTES {
+                self.refused(place, &line, Rule::TooLong, (8, 0));
+            } else {
+                self.line_again(place, &line, record);
+            }
+        }
+    }
+
+    fn line_again(&mut self, place: usize, line: &[u8], record: &[u8]) {
+        self.lines += 1;
+        self.check(&READERS[place], line, &Wanted::Output(record));
+        match original::read(place, std::str::from_utf8(line).unwrap()) {
+            Said::Read { record: read, .. } if marks::forgotten(record).as_ref() == Some(&read) => (),
+            _ => self.differ("full", record, || "the Rust does not read the line so".to_string()),
+        }
+    }
+
+    /// A text whose full line is written down.
+    fn full_row(&mut self, text: &str, line: &str) {
+        let call = &READERS[original::GENERAL];
+        match self.written(call, text.as_bytes(), LONGEST) {
+            ((0, length), record) => {
+                self.check(&WRITERS[FULL], &record[..length], &Wanted::Output(line.as_bytes()));
+            }
+            (answer, _) => self.differ(call.name, text.as_bytes(), || format!("answer {answer:?}")),
+        }
+    }
+
     /// What a call has to write where the Rust read this record. If the text has place words as marks,
     /// it is what the call writes, once that is the Rust's record in a copy without them and they are
     /// those of the text; none if it is not so.
@@ -300,6 +337,10 @@ impl Compare {
             };
             self.check(call, record, &wanted);
         }
+        match field {
+            true => self.check(&WRITERS[FULL], record, &Wanted::Refusal(15, 0)),
+            false => self.full(record),
+        }
         if let Some(text) = &texts.kind {
             self.read_again(text, record);
         }
@@ -334,9 +375,11 @@ impl Compare {
             self.check(call, record, wanted);
         }
         match &formed {
-            Some(f) if f.kind == document::FIELD => self.kind_again(&f.canonical),
-            _ => (),
+            Some(f) if f.kind != document::FIELD => return self.full(record),
+            Some(f) => self.kind_again(&f.canonical),
+            None => (),
         }
+        self.check(&WRITERS[FULL], record, &wrong());
     }
 
     /// The text of a made-up field's kind, which the Rust reads as it is.
@@ -387,6 +430,9 @@ fn run(count: usize, seed: u64) -> bool {
     for size in [40_959, 40_960, 40_961, 50_000] {
         compare.record(&records::of_size(size));
     }
+    for size in [4095, 4096, 4097] {
+        compare.record(&records::of_line(size));
+    }
     records::marked(|record| compare.record(record));
     texts::located(&mut |text, mark, name| compare.located(text, mark, name));
     for (text, due) in &rows::VISIBILITY {
@@ -394,6 +440,9 @@ fn run(count: usize, seed: u64) -> bool {
     }
     for (text, due) in &rows::kind_tuples() {
         compare.row(&READERS[KIND], text, due);
+    }
+    for (text, line) in rows::FULL {
+        compare.full_row(text, line);
     }
     texts::each(count, seed, |text| {
         texts += 1;
@@ -419,7 +468,7 @@ fn run(count: usize, seed: u64) -> bool {
     let calls = READERS.len() + WRITERS.len() + MESSAGES.len();
     let (asked, records) = (compare.asked, compare.records);
     println!("{calls} functions called {asked} times; {records} records made up; seed {seed}");
-    println!("{} kind texts of fields read again", compare.again);
+    println!("{} kind texts of fields read again, full lines {} times", compare.again, compare.lines);
     println!("compare: {texts} texts, {} unlisted differences", compare.unlisted);
     compare.unlisted == 0
 }

@@ -11,6 +11,8 @@ use std::panic::{catch_unwind, AssertUnwindSafe};
 
 /// The reading calls, in the order of calls::READERS.
 pub const GENERAL: usize = 0;
+/// The first of those that are named for a keyword, which follow in the order of document::KEYWORDS.
+pub const NAMED: usize = 1;
 pub const KIND: usize = 5;
 
 pub enum Said {

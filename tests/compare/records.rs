@@ -87,7 +87,10 @@ impl Maker<'_> {
 
     fn name(&mut self, may_be_empty: bool) {
         let start = self.open(NAME);
-        let good = self.random.of(&["a", "$", "_9", "amount", "Zz09", "indexed", "memory", "calldata"]);
+        let good = self.random.of(&[
+            "a", "$", "_9", "amount", "Zz09", "indexed", "memory", "calldata", "returns", "pure", "anonymous",
+            "function",
+        ]);
         let bad = self.random.of(&["", "9", "a b", "é", "a.", "a\0", "@", "[", "`", "{", "/", ":"]);
         let none = may_be_empty && self.random.once_in(3);
         let name = if none { "" } else if self.fault() { bad } else { good };
@@ -209,6 +212,12 @@ pub fn of_size(size: usize) -> Vec<u8> {
     let name = vec![b'n'; 1 + (size - front) % field.len()];
     let list = wrapped(LIST, &[&field.repeat(fields)]);
     wrapped(EVENT, &[&NOT_ANONYMOUS, &wrapped(NAME, &[&name]), &list])
+}
+
+/// An error's record whose full line has `size` bytes.
+pub fn of_line(size: usize) -> Vec<u8> {
+    let name = vec![b'n'; size - b"error ()".len()];
+    wrapped(ERROR, &[&wrapped(NAME, &[&name]), &wrapped(LIST, &[])])
 }
 
 /// Hands each mark with each of several names and kinds to `take`: by itself, in a tuple and in each

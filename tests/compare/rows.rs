@@ -32,10 +32,10 @@ impl Due {
     }
 }
 
-const PURE: u16 = 0;
-const VIEW: u16 = 1;
+pub const PURE: u16 = 0;
+pub const VIEW: u16 = 1;
 const NOT_STATED: u16 = 2;
-const PAYABLE: u16 = 3;
+pub const PAYABLE: u16 = 3;
 
 /// Order 2.
 pub const VISIBILITY: [(&str, Due); 23] = [
@@ -62,6 +62,31 @@ pub const VISIBILITY: [(&str, Due); 23] = [
     ("event e() external", Refused(7, 10)),
     ("function f() external returns", Refused(1, 29)),
     ("function f() external returns (uin)", Refused(3, 31)),
+];
+
+/// Order 4: texts and the full lines of their records.
+pub const FULL: [(&str, &str); 12] = [
+    (
+        "function f ( uint  a , bool ) external view returns ( string memory )",
+        "function f(uint256 a,bool) view returns (string memory)",
+    ),
+    ("function f() returns ()", "function f()"),
+    ("function f() public", "function f()"),
+    ("constructor ( ) payable ;", "constructor() payable"),
+    (
+        "event e(uint a, (uint indexed, string memory) indexed t) anonymous",
+        "event e(uint256 a,(uint256 indexed,string memory) indexed t) anonymous",
+    ),
+    (
+        "function returns(uint returns) pure returns(bool pure)",
+        "function returns(uint256 returns) pure returns (bool pure)",
+    ),
+    ("constructor((uint a,())[02] memory b)", "constructor((uint256 a,())[2] memory b)"),
+    ("function f(bytes calldata)payable", "function f(bytes calldata) payable"),
+    ("function f(bytes32 calldata)pure", "function f(bytes32 calldata) pure"),
+    ("error e( ( ) [ ] [2 ] , ( ) a );", "error e(()[][2],() a)"),
+    ("event e(int indexed,int8 indexed a)", "event e(int256 indexed,int8 indexed a)"),
+    ("function function(function[+1] function)", "function function(function[1] function)"),
 ];
 
 /// Order 3: texts for the kind call, most of which start with a bracket.

@@ -35,6 +35,7 @@ pub fn each(count: usize, seed: u64, mut take: impl FnMut(&[u8])) {
     long(&mut counted);
     located(&mut |text, _, _| counted(text.as_bytes()));
     visible(&mut counted);
+    named(&mut counted);
     bracketed(&mut counted);
     let left = count.saturating_sub(made);
     short(left / 3, &mut take);
@@ -201,6 +202,26 @@ fn visible(take: &mut impl FnMut(&[u8])) {
                 VISIBILITY.iter().for_each(|other| put(place, &format!("{before}{word}{between}{other} ")));
             }
         }
+    }
+}
+
+/// Names that are words of other places of a declaration, wherever a name may stand and where none may.
+fn named(take: &mut impl FnMut(&[u8])) {
+    rows::FULL.iter().for_each(|(text, _)| take(text.as_bytes()));
+    let places = [
+        "function ~()", "function ~(uint ~)", "function f(string memory ~)", "function f(() calldata ~)",
+        "function f((uint ~,(bool ~)[2]~)[]memory ~)", "function f(~ ~)", "function ~() ~ returns (uint ~)",
+        "function f()pure returns(string ~,() ~)", "function f()view ~", "function f()returns ~(int)",
+        "constructor(uint ~,(bool ~)~)", "constructor(bytes ~)~", "constructor ~()", "event ~(uint ~)~",
+        "event e(uint indexed ~,(uint ~) indexed ~)anonymous", "event e(()[] ~)", "error ~(uint ~,() ~)",
+        "error e((string ~)[] ~)~",
+    ];
+    let words = [
+        "returns", "pure", "view", "payable", "memory", "calldata", "indexed", "anonymous", "function",
+        "constructor", "event", "error", "external", "public", "uint256",
+    ];
+    for (place, word) in places.iter().flat_map(|place| words.map(|word| (place, word))) {
+        take(place.replace('~', word).as_bytes());
     }
 }
 
