@@ -31,7 +31,7 @@ use Rattle.record.specs.Says.{Says, FunctionSaid, ConstructorSaid, Declares, Fi
 use Rattle.abi.specs.Lines.{Lined, lineOf, LineEnds, Signed, signatureOf, SignatureEnds, Kinded, KindEnds, NameFound}
 
 -- what is read has at most 40,960 bytes
-short : (b : List ℕ) (d : Declaration) → decode b ≡ some d → length b ≤ longestRecord
+pub short : (b : List ℕ) (d : Declaration) → decode b ≡ some d → length b ≤ longestRecord
 unfolding decode
 short b d e = when-some (leb (length b) longestRecord) _ e (λ h _. leb-true (length b) longestRecord h)
 

@@ -32,7 +32,7 @@ use Rattle.abi.proofs.Leaves.{wrote-text}
 use Rattle.abi.proofs.Nested.{kind-there, brackets-long}
 use Rattle.abi.proofs.Stores.{store-1}
 
-part-length : (b : List ℕ) (from to : ℕ) → from ≤ to → to ≤ length b → length (take (to - from) (drop from b)) ≡ to - from
+pub part-length : (b : List ℕ) (from to : ℕ) → from ≤ to → to ≤ length b → length (take (to - from) (drop from b)) ≡ to - from
 part-length b from to h k = length-take-le (to - from) (drop from b) (rw length-drop (omega arith))
 
 -- a name, and the list behind it

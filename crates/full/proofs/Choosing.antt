@@ -25,10 +25,10 @@ use Rattle.model.specs.Written.{nameText, byMark}
 use Rattle.model.specs.Reading.{mutabilities, keywordText, deepest}
 use Rattle.model.specs.Layout.{littleEndian, leValue, recordOf, Bytes}
 use Rattle.model.specs.Record.{encodeFields, encodeList, encodeName, encode, areFields, isDeclaration, wellFormed, longestRecord, case, onOption, decodeFields, decode, decodeLone}
-use Rattle.model.specs.Full.{bracketed, mutabilityText, returnsText, anonymousText, fullText, fullOutput}
+use Rattle.model.specs.Full.{bracketed, mutabilityText, anonymousText, fullText, fullOutput}
 use Rattle.model.specs.Answer.{writes}
 use Rattle.model.proofs.Pieces.{bytes-take, bytes-drop, le-length, le-read, record-length}
-use Rattle.model.proofs.Decoding.{when-some, select-other}
+use Rattle.model.proofs.Decoding.{select-other}
 use Rattle.model.proofs.Records.{inputs-spells, decode-exactly}
 use Rattle.model.proofs.Scans.{part-rest}
 use Rattle.model.proofs.Lengths.{full-short}
@@ -41,8 +41,10 @@ use Rattle.record.specs.Says.{ListSaid, FunctionSaid, ConstructorSaid, EventSai
 use Rattle.record.specs.Texts.{measured, tupleTextFrom}
 use Rattle.record.proofs.Tops.{fields-decode}
 use Rattle.record.proofs.Walk.{rest-length}
+use Rattle.abi.proofs.Calls.{short}
 use Rattle.full.specs.Parts.{FieldsAre}
 use Rattle.full.specs.Lines.{spot, Listed, Returned, joined, Line, lineOf, LineEnds}
+use Rattle.full.proofs.There.{behind-head}
 
 -- Words.
 
@@ -84,22 +86,17 @@ error-joined nm ins = ap (λ x. ascii "error " ++ (nm ++ x)) (sym (append-nil (b
 
 -- Places.
 
-bytes-of : (b : List ℕ) → ((i : ℕ) → getD b i 0 < 256) → Bytes b
+-- as it is known of every lent slice
+abbrev AreBytes : List ℕ → Type 0
+AreBytes b = (i : ℕ) → getD b i 0 < 256
+
+bytes-of : (b : List ℕ) → AreBytes b → Bytes b
 unfolding Bytes
 bytes-of b h = h
 
-short : (b : List ℕ) (d : Declaration) → decode b ≡ some d → length b ≤ longestRecord
-unfolding decode
-short b d e = when-some (leb (length b) longestRecord) _ e (λ h _. leb-true (length b) longestRecord h)
-
 -- the body of a record
 body-behind : (b : List ℕ) (k : ℕ) (body : List ℕ) → b ≡ recordOf 4 k body → drop 6 b ≡ body
-unfolding recordOf
-body-behind b k body e =
-    let u : List ℕ = littleEndian 4 (6 + length body) in
-    let v : List ℕ = littleEndian 2 k in
-    let four : drop 4 b ≡ v ++ body = ap (drop 4) e ∙ drop-at u (v ++ body) 4 (le-length 4 _) in
-    sym (drop-drop 2 4 b) ∙ ap (drop 2) four ∙ drop-at v body 2 (le-length 2 k)
+body-behind b k body e = behind-head b k body [] (e ∙ sym (append-nil (recordOf 4 k body))) ∙ append-nil body
 
 -- and a number of two bytes in front of it
 module _ (b : List ℕ) (k m : ℕ) (rest : List ℕ) (e : b ≡ recordOf 4 k (littleEndian 2 m ++ rest)) where
@@ -132,7 +129,7 @@ output-is : (b : List ℕ) (d : Declaration) (u : List ℕ) → decode b ≡ som
 unfolding fullOutput
 output-is b d u e f = rw (fullOutput, e) (ap writes f)
 
-module _ (b : List ℕ) (B : (i : ℕ) → getD b i 0 < 256) where
+module _ (b : List ℕ) (B : AreBytes b) where
   exactly : (d : Declaration) → decode b ≡ some d → (wellFormed d ≡ true) × (b ≡ encode 4 d)
   exactly d e = decode-exactly b d (bytes-of b B) .0 e
 
@@ -161,204 +158,204 @@ module _ (b : List ℕ) (B : (i : ℕ) → getD b i 0 < 256) where
         → LineEnds b s i u front back text text₁ r → Ends (fullOutput b) text text₁ r
     ends-as p f text text₁ r h = subst (λ o. Ends o text text₁ r) (sym (output-is b d (lineOf p) e f)) (h p)
 
-  -- a function
-  module _ (s : Spot) (i u : Measured) (w : FunctionSaid b (decode b) s i u) where
-    abbrev functionTree : Declaration
-    functionTree = Declaration.function (w .mutability) (w .name) (w .ins) (w .outs)
+-- a function
+module _ {b : List ℕ} {s : Spot} {i u : Measured} (w : FunctionSaid b (decode b) s i u) (B : AreBytes b) where
+  abbrev functionTree : Declaration
+  functionTree = Declaration.function (w .mutability) (w .name) (w .ins) (w .outs)
 
-    abbrev functionRest : List ℕ
-    functionRest = encodeName 4 (w .name) ++ (encodeList 4 (w .ins) ++ encodeList 4 (w .outs))
+  abbrev functionRest : List ℕ
+  functionRest = encodeName 4 (w .name) ++ (encodeList 4 (w .ins) ++ encodeList 4 (w .outs))
 
-    function-bytes : b ≡ recordOf 4 0x20 (littleEndian 2 (w .mutability) ++ functionRest)
-    unfolding encode
-    function-bytes = exactly functionTree (w .same) .1
+  function-bytes : b ≡ recordOf 4 0x20 (littleEndian 2 (w .mutability) ++ functionRest)
+  unfolding encode
+  function-bytes = exactly b B functionTree (w .same) .1
 
-    function-fits : w .mutability < 65536
-    unfolding wellFormed isDeclaration
-    function-fits = omega (arith, leb-true (w .mutability) 3 (left _ (left _ (exactly functionTree (w .same) .0))))
+  function-fits : w .mutability < 65536
+  unfolding wellFormed isDeclaration
+  function-fits = omega (arith, leb-true (w .mutability) 3 (left _ (left _ (exactly b B functionTree (w .same) .0))))
 
-    pub function-long : 8 ≤ length b
-    function-long = omega (arith, front-long b 0x20 (w .mutability) functionRest function-bytes)
+  pub function-long : 8 ≤ length b
+  function-long = omega (arith, front-long b 0x20 (w .mutability) functionRest function-bytes)
 
-    module _ (x : ℕ) (e : x ≡ leValue (take 2 (drop 0 (take (length b - 6) (drop 6 b))))) (back : List ℕ) (f : mutabilityText x ≡ back) where
-      function-text : fullText functionTree ≡ joined (ascii "function ") (w .name) (w .ins) back (w .outs)
-      function-text =
-          let m : w .mutability ≡ x = sym (front-number b 0x20 (w .mutability) functionRest function-bytes function-fits x e) in
-          function-joined (w .mutability) (w .name) (w .ins) (w .outs) back (ap mutabilityText m ∙ f)
+  module _ (x : ℕ) (e : x ≡ leValue (take 2 (drop 0 (take (length b - 6) (drop 6 b))))) (back : List ℕ) (f : mutabilityText x ≡ back) where
+    function-text : fullText functionTree ≡ joined (ascii "function ") (w .name) (w .ins) back (w .outs)
+    function-text =
+        let m : w .mutability ≡ x = sym (front-number b 0x20 (w .mutability) functionRest function-bytes function-fits x e) in
+        function-joined (w .mutability) (w .name) (w .ins) (w .outs) back (ap mutabilityText m ∙ f)
 
-      pub function-line : Line b s i u (ascii "function ") back
-      function-line =
-          let h = short b functionTree (w .same) in
-          let outs = listed Parameter u (w .outs) h (w .outputs) in
-          record {
-            name = w .name;
-            ins = w .ins;
-            outs = w .outs;
-            named = w .named;
-            inputs = listed Parameter i (w .ins) h (w .inputs);
-            outputs = record { is = outs .is; order = outs .order; inside = outs .inside; some = λ _. outs };
-            short = line-is-short functionTree (w .same) _ function-text;
-          }
+    pub function-line : Line b s i u (ascii "function ") back
+    function-line =
+        let h = short b functionTree (w .same) in
+        let outs = listed b B Parameter u (w .outs) h (w .outputs) in
+        record {
+          name = w .name;
+          ins = w .ins;
+          outs = w .outs;
+          named = w .named;
+          inputs = listed b B Parameter i (w .ins) h (w .inputs);
+          outputs = record { is = outs .is; order = outs .order; inside = outs .inside; some = λ _. outs };
+          short = line-is-short b B functionTree (w .same) _ function-text;
+        }
 
-      pub function-ends : (text text₁ : List ℕ) (r : Answer) → LineEnds b s i u (ascii "function ") back text text₁ r → Ends (fullOutput b) text text₁ r
-      unfolding lineOf function-line
-      function-ends text text₁ r h = ends-as functionTree (w .same) function-line function-text text text₁ r h
+    pub function-ends : (text text₁ : List ℕ) (r : Answer) → LineEnds b s i u (ascii "function ") back text text₁ r → Ends (fullOutput b) text text₁ r
+    unfolding lineOf function-line
+    function-ends text text₁ r h = ends-as b B functionTree (w .same) function-line function-text text text₁ r h
 
-  -- an event
-  module _ (s : Spot) (i u : Measured) (w : EventSaid b (decode b) s i u) where
-    abbrev eventTree : Declaration
-    eventTree = Declaration.event (w .anonymous) (w .name) (w .ins)
+-- an event
+module _ {b : List ℕ} {s : Spot} {i u : Measured} (w : EventSaid b (decode b) s i u) (B : AreBytes b) where
+  abbrev eventTree : Declaration
+  eventTree = Declaration.event (w .anonymous) (w .name) (w .ins)
 
-    abbrev eventRest : List ℕ
-    eventRest = encodeName 4 (w .name) ++ encodeList 4 (w .ins)
+  abbrev eventRest : List ℕ
+  eventRest = encodeName 4 (w .name) ++ encodeList 4 (w .ins)
 
-    event-bytes : b ≡ recordOf 4 0x22 (littleEndian 2 (w .anonymous) ++ eventRest)
-    unfolding encode
-    event-bytes = exactly eventTree (w .same) .1
+  event-bytes : b ≡ recordOf 4 0x22 (littleEndian 2 (w .anonymous) ++ eventRest)
+  unfolding encode
+  event-bytes = exactly b B eventTree (w .same) .1
 
-    event-fits : w .anonymous < 65536
-    unfolding wellFormed isDeclaration
-    event-fits = omega (arith, leb-true (w .anonymous) 1 (left _ (left _ (exactly eventTree (w .same) .0))))
+  event-fits : w .anonymous < 65536
+  unfolding wellFormed isDeclaration
+  event-fits = omega (arith, leb-true (w .anonymous) 1 (left _ (left _ (exactly b B eventTree (w .same) .0))))
 
-    pub event-long : 8 ≤ length b
-    event-long = omega (arith, front-long b 0x22 (w .anonymous) eventRest event-bytes)
+  pub event-long : 8 ≤ length b
+  event-long = omega (arith, front-long b 0x22 (w .anonymous) eventRest event-bytes)
 
-    module _ (x : ℕ) (e : x ≡ leValue (take 2 (drop 0 (take (length b - 6) (drop 6 b))))) (back : List ℕ) (f : anonymousText x ≡ back) where
-      event-text : fullText eventTree ≡ joined (ascii "event ") (w .name) (w .ins) back noField
-      event-text =
-          let m : w .anonymous ≡ x = sym (front-number b 0x22 (w .anonymous) eventRest event-bytes event-fits x e) in
-          event-joined (w .anonymous) (w .name) (w .ins) back (ap anonymousText m ∙ f)
+  module _ (x : ℕ) (e : x ≡ leValue (take 2 (drop 0 (take (length b - 6) (drop 6 b))))) (back : List ℕ) (f : anonymousText x ≡ back) where
+    event-text : fullText eventTree ≡ joined (ascii "event ") (w .name) (w .ins) back noField
+    event-text =
+        let m : w .anonymous ≡ x = sym (front-number b 0x22 (w .anonymous) eventRest event-bytes event-fits x e) in
+        event-joined (w .anonymous) (w .name) (w .ins) back (ap anonymousText m ∙ f)
 
-      pub event-line : Line b s i u (ascii "event ") back
-      event-line = record {
-        name = w .name;
-        ins = w .ins;
-        outs = noField;
-        named = w .named;
-        inputs = listed Event i (w .ins) (short b eventTree (w .same)) (w .inputs);
-        outputs = no-outputs b u (w .outputs .from) (w .outputs .to);
-        short = line-is-short eventTree (w .same) _ event-text;
-      }
-
-      pub event-ends : (text text₁ : List ℕ) (r : Answer) → LineEnds b s i u (ascii "event ") back text text₁ r → Ends (fullOutput b) text text₁ r
-      unfolding lineOf event-line
-      event-ends text text₁ r h = ends-as eventTree (w .same) event-line event-text text text₁ r h
-
-  -- an error
-  module _ (s : Spot) (i u : Measured) (w : ErrorSaid b (decode b) s i u) where
-    abbrev errorTree : Declaration
-    errorTree = Declaration.error (w .name) (w .ins)
-
-    pub error-line : Line b s i u (ascii "error ") []
-    error-line = record {
+    pub event-line : Line b s i u (ascii "event ") back
+    event-line = record {
       name = w .name;
       ins = w .ins;
       outs = noField;
       named = w .named;
-      inputs = listed Plain i (w .ins) (short b errorTree (w .same)) (w .inputs);
+      inputs = listed b B Event i (w .ins) (short b eventTree (w .same)) (w .inputs);
       outputs = no-outputs b u (w .outputs .from) (w .outputs .to);
-      short = line-is-short errorTree (w .same) _ (error-joined (w .name) (w .ins));
+      short = line-is-short b B eventTree (w .same) _ event-text;
     }
 
-    pub error-ends : (text text₁ : List ℕ) (r : Answer) → LineEnds b s i u (ascii "error ") [] text text₁ r → Ends (fullOutput b) text text₁ r
-    unfolding lineOf error-line
-    error-ends text text₁ r h = ends-as errorTree (w .same) error-line (error-joined (w .name) (w .ins)) text text₁ r h
+    pub event-ends : (text text₁ : List ℕ) (r : Answer) → LineEnds b s i u (ascii "event ") back text text₁ r → Ends (fullOutput b) text text₁ r
+    unfolding lineOf event-line
+    event-ends text text₁ r h = ends-as b B eventTree (w .same) event-line event-text text text₁ r h
 
-  -- a constructor
-  module _ (w : ConstructorSaid (decode b)) where
-    abbrev constructorTree : Declaration
-    constructorTree = Declaration.constructor (w .mutability) (w .ins)
+-- an error
+module _ {b : List ℕ} {s : Spot} {i u : Measured} (w : ErrorSaid b (decode b) s i u) (B : AreBytes b) where
+  abbrev errorTree : Declaration
+  errorTree = Declaration.error (w .name) (w .ins)
 
-    constructor-bytes : b ≡ recordOf 4 0x21 (littleEndian 2 (w .mutability) ++ encodeList 4 (w .ins))
-    unfolding encode
-    constructor-bytes = exactly constructorTree (w .same) .1
+  pub error-line : Line b s i u (ascii "error ") []
+  error-line = record {
+    name = w .name;
+    ins = w .ins;
+    outs = noField;
+    named = w .named;
+    inputs = listed b B Plain i (w .ins) (short b errorTree (w .same)) (w .inputs);
+    outputs = no-outputs b u (w .outputs .from) (w .outputs .to);
+    short = line-is-short b B errorTree (w .same) _ (error-joined (w .name) (w .ins));
+  }
 
-    good : isDeclaration constructorTree ≡ true
-    unfolding wellFormed
-    good = left _ (exactly constructorTree (w .same) .0)
+  pub error-ends : (text text₁ : List ℕ) (r : Answer) → LineEnds b s i u (ascii "error ") [] text text₁ r → Ends (fullOutput b) text text₁ r
+  unfolding lineOf error-line
+  error-ends text text₁ r h = ends-as b B errorTree (w .same) error-line (error-joined (w .name) (w .ins)) text text₁ r h
 
-    constructor-fits : w .mutability < 65536
-    unfolding isDeclaration
-    constructor-fits = omega (arith, leb-true (w .mutability) 3 (right (leb 2 (w .mutability)) (left _ good)))
+-- a constructor
+module _ (b : List ℕ) (w : ConstructorSaid (decode b)) (B : AreBytes b) where
+  abbrev constructorTree : Declaration
+  constructorTree = Declaration.constructor (w .mutability) (w .ins)
 
-    ins-well : areFields Parameter deepest (w .ins) ≡ true
-    unfolding isDeclaration
-    ins-well = right (between 2 3 (w .mutability)) good
+  constructor-bytes : b ≡ recordOf 4 0x21 (littleEndian 2 (w .mutability) ++ encodeList 4 (w .ins))
+  unfolding encode
+  constructor-bytes = exactly b B constructorTree (w .same) .1
 
-    list-behind : drop 8 b ≡ recordOf 4 0x12 (encodeFields 4 (w .ins))
-    unfolding encodeList
-    list-behind = front-rest b 0x21 (w .mutability) (encodeList 4 (w .ins)) constructor-bytes
+  good : isDeclaration constructorTree ≡ true
+  unfolding wellFormed
+  good = left _ (exactly b B constructorTree (w .same) .0)
 
-    fields-behind : drop 14 b ≡ encodeFields 4 (w .ins)
-    fields-behind = sym (drop-drop 6 8 b) ∙ body-behind (drop 8 b) 0x12 (encodeFields 4 (w .ins)) list-behind
+  constructor-fits : w .mutability < 65536
+  unfolding isDeclaration
+  constructor-fits = omega (arith, leb-true (w .mutability) 3 (right (leb 2 (w .mutability)) (left _ good)))
 
-    pub constructor-long : 14 ≤ length b
-    constructor-long = omega (arith, ap length list-behind, record-length 4 0x12 (encodeFields 4 (w .ins)), length-drop 8 b)
+  ins-well : areFields Parameter deepest (w .ins) ≡ true
+  unfolding isDeclaration
+  ins-well = right (between 2 3 (w .mutability)) good
 
-    abbrev fieldsPart : List ℕ
-    fieldsPart = take (length b - 14) (drop 14 b)
+  list-behind : drop 8 b ≡ recordOf 4 0x12 (encodeFields 4 (w .ins))
+  unfolding encodeList
+  list-behind = front-rest b 0x21 (w .mutability) (encodeList 4 (w .ins)) constructor-bytes
 
-    part-is : fieldsPart ≡ encodeFields 4 (w .ins)
-    part-is = part-rest b 14 ∙ fields-behind
+  fields-behind : drop 14 b ≡ encodeFields 4 (w .ins)
+  fields-behind = sym (drop-drop 6 8 b) ∙ body-behind (drop 8 b) 0x12 (encodeFields 4 (w .ins)) list-behind
 
-    part-small : length fieldsPart ≤ length b
-    part-small = omega (arith, rest-length b 14)
+  pub constructor-long : 14 ≤ length b
+  constructor-long = omega (arith, ap length list-behind, record-length 4 0x12 (encodeFields 4 (w .ins)), length-drop 8 b)
 
-    part-text : tupleTextFrom Parameter 32 fieldsPart ≡ some (kindText (Kind.tuple (kindsOf (w .ins))))
-    unfolding tupleTextFrom
-    part-text =
-        let read : decodeFields 4 Parameter (encodeFields 4 (w .ins)) ≡ some (w .ins) = inputs-spells 4 Parameter .to (w .ins) ins-well (omega (arith, ap length part-is, part-small, short b constructorTree (w .same))) in
-        ap (onOption (λ fs. kindText (Kind.tuple (kindsOf fs)))) (fields-decode Parameter fieldsPart ∙ ap (decodeFields 4 Parameter) part-is ∙ read)
+  abbrev fieldsPart : List ℕ
+  fieldsPart = take (length b - 14) (drop 14 b)
 
-    module _ (t : ℕ) (g : (t ≡ measured (tupleTextFrom Parameter 32 fieldsPart)) × (t ≤ 2 * length fieldsPart + 2)) where
-      abbrev nowhere : Spot
-      nowhere = record { from = 0; to = 0 }
+  part-is : fieldsPart ≡ encodeFields 4 (w .ins)
+  part-is = part-rest b 14 ∙ fields-behind
 
-      abbrev inputs : Measured
-      inputs = record { from = 14; to = length b; text = t }
+  part-small : length fieldsPart ≤ length b
+  part-small = omega (arith, rest-length b 14)
 
-      abbrev outputs : Measured
-      outputs = record { from = 0; to = 0; text = 0 }
+  part-text : tupleTextFrom Parameter 32 fieldsPart ≡ some (kindText (Kind.tuple (kindsOf (w .ins))))
+  unfolding tupleTextFrom
+  part-text =
+      let read : decodeFields 4 Parameter (encodeFields 4 (w .ins)) ≡ some (w .ins) = inputs-spells 4 Parameter .to (w .ins) ins-well (omega (arith, ap length part-is, part-small, short b constructorTree (w .same))) in
+      ap (onOption (λ fs. kindText (Kind.tuple (kindsOf fs)))) (fields-decode Parameter fieldsPart ∙ ap (decodeFields 4 Parameter) part-is ∙ read)
 
-      list-long : t ≡ length (kindText (Kind.tuple (kindsOf (w .ins))))
-      unfolding measured
-      list-long = g .0 ∙ ap measured part-text
+  module _ (t : ℕ) (g : (t ≡ measured (tupleTextFrom Parameter 32 fieldsPart)) × (t ≤ 2 * length fieldsPart + 2)) where
+    abbrev nowhere : Spot
+    nowhere = record { from = 0; to = 0 }
 
-      module _ (x : ℕ) (e : x ≡ leValue (take 2 (drop 0 (take (length b - 6) (drop 6 b))))) (back : List ℕ) (f : mutabilityText x ≡ back) where
-        constructor-text : fullText constructorTree ≡ joined (ascii "constructor") [] (w .ins) back noField
-        constructor-text =
-            let m : w .mutability ≡ x = sym (front-number b 0x21 (w .mutability) (encodeList 4 (w .ins)) constructor-bytes constructor-fits x e) in
-            constructor-joined (w .mutability) (w .ins) back (ap mutabilityText m ∙ f)
+    abbrev inputs : Measured
+    inputs = record { from = 14; to = length b; text = t }
 
-        pub constructor-line : Line b nowhere inputs outputs (ascii "constructor") back
-        constructor-line = record {
-          name = [];
-          ins = w .ins;
-          outs = noField;
-          named = record { there = refl; order = omega arith; inside = omega arith };
-          inputs = record {
-            is = record { same = part-is; small = omega (arith, part-small, short b constructorTree (w .same)); sort = Parameter; d = deepest; well = ins-well };
-            long = list-long;
-            small = omega (arith, g .1, part-small);
-            order = constructor-long;
-            inside = omega arith;
-            short = short b constructorTree (w .same);
-          };
-          outputs = no-outputs b outputs refl refl;
-          short = line-is-short constructorTree (w .same) _ constructor-text;
-        }
+    abbrev outputs : Measured
+    outputs = record { from = 0; to = 0; text = 0 }
 
-        pub constructor-ends : (text text₁ : List ℕ) (r : Answer) → LineEnds b nowhere inputs outputs (ascii "constructor") back text text₁ r → Ends (fullOutput b) text text₁ r
-        unfolding lineOf constructor-line
-        constructor-ends text text₁ r h = ends-as constructorTree (w .same) constructor-line constructor-text text text₁ r h
+    list-long : t ≡ length (kindText (Kind.tuple (kindsOf (w .ins))))
+    unfolding measured
+    list-long = g .0 ∙ ap measured part-text
 
-    -- any other number than that of `payable` says that none is stated
-    pub constructor-none : (x : ℕ) → x ≡ leValue (take 2 (drop 0 (take (length b - 6) (drop 6 b)))) → (x ≡ 3 → ⊥) → mutabilityText x ≡ []
-    unfolding isDeclaration
-    constructor-none x e n =
-        let m : x ≡ w .mutability = front-number b 0x21 (w .mutability) (encodeList 4 (w .ins)) constructor-bytes constructor-fits x e in
-        let low : 2 ≤ w .mutability = leb-true 2 (w .mutability) (left _ (left _ good)) in
-        stated-none x (λ z. omega arith) (λ z. omega arith) n
+    module _ (x : ℕ) (e : x ≡ leValue (take 2 (drop 0 (take (length b - 6) (drop 6 b))))) (back : List ℕ) (f : mutabilityText x ≡ back) where
+      constructor-text : fullText constructorTree ≡ joined (ascii "constructor") [] (w .ins) back noField
+      constructor-text =
+          let m : w .mutability ≡ x = sym (front-number b 0x21 (w .mutability) (encodeList 4 (w .ins)) constructor-bytes constructor-fits x e) in
+          constructor-joined (w .mutability) (w .ins) back (ap mutabilityText m ∙ f)
+
+      pub constructor-line : Line b nowhere inputs outputs (ascii "constructor") back
+      constructor-line = record {
+        name = [];
+        ins = w .ins;
+        outs = noField;
+        named = record { there = refl; order = omega arith; inside = omega arith };
+        inputs = record {
+          is = record { same = part-is; small = omega (arith, part-small, short b constructorTree (w .same)); sort = Parameter; d = deepest; well = ins-well };
+          long = list-long;
+          small = omega (arith, g .1, part-small);
+          order = constructor-long;
+          inside = omega arith;
+          short = short b constructorTree (w .same);
+        };
+        outputs = no-outputs b outputs refl refl;
+        short = line-is-short b B constructorTree (w .same) _ constructor-text;
+      }
+
+      pub constructor-ends : (text text₁ : List ℕ) (r : Answer) → LineEnds b nowhere inputs outputs (ascii "constructor") back text text₁ r → Ends (fullOutput b) text text₁ r
+      unfolding lineOf constructor-line
+      constructor-ends text text₁ r h = ends-as b B constructorTree (w .same) constructor-line constructor-text text text₁ r h
+
+  -- any other number than that of `payable` says that none is stated
+  pub constructor-none : (x : ℕ) → x ≡ leValue (take 2 (drop 0 (take (length b - 6) (drop 6 b)))) → (x ≡ 3 → ⊥) → mutabilityText x ≡ []
+  unfolding isDeclaration
+  constructor-none x e n =
+      let m : x ≡ w .mutability = front-number b 0x21 (w .mutability) (encodeList 4 (w .ins)) constructor-bytes constructor-fits x e in
+      let low : 2 ≤ w .mutability = leb-true 2 (w .mutability) (left _ (left _ good)) in
+      stated-none x (λ z. omega arith) (λ z. omega arith) n
 
 -- By what the check found.
 

@@ -7,8 +7,7 @@ use Prim.Native.Nat.{ℕ, _+_, _*_, _-_, _≤_}
 use native.Mathlib.Omega.{arith}
 use native.Mathlib.Nat.{zero-add}
 use lib.Dec.{leb}
-use lib.ListN.{length, take, drop, length-append, length-drop}
-use lib.Seq.{length-take-le}
+use lib.ListN.{length, length-append}
 use borrow.Author.Tests.{leb-true, leb-false, le-leb}
 use Rattle.kinds.specs.Bytes.{ascii}
 use Rattle.kinds.specs.Kind.{Kind, kindText, listText, restText}
@@ -24,6 +23,7 @@ use Rattle.layout.proofs.Answers.{ends-full, ends-written}
 use Rattle.record.specs.declared.Spot.{Spot}
 use Rattle.record.specs.declared.Measured.{Measured}
 use Rattle.record.proofs.Equations.{arrays-text}
+use Rattle.abi.proofs.Whole.{part-length}
 use Rattle.full.specs.Parts.{FieldsAre, extraBase, extraField, extraFields, Extra, PutIn, FieldsRoom, FieldsWrote}
 use Rattle.full.specs.Lines.{spot, SomeList, SomeReturns, ListLong, ReturnsLong, ReturnsRoom, ReturnsWrote, Line, lineOf, LineFits, LineEnds}
 use Rattle.full.proofs.There.{none-left, left-start}
@@ -57,19 +57,16 @@ bracketed-long fs = omega (arith, list-long fs)
 
 -- Lengths.
 
-spot-long : (b : List ℕ) (from to : ℕ) → from ≤ to → to ≤ length b → length (spot b from to) ≡ to - from
-spot-long b from to h k = length-take-le (to - from) (drop from b) (rw length-drop (omega arith))
-
 pub list-is : (b : List ℕ) (l : Measured) → SomeList b l → (r : ℕ) → Extra (spot b (l .from) (l .to)) r → ListLong b l (l .text + r)
 list-is b l q r x = record {
   all = λ fs i. omega (arith, i .long, x .all fs (i .is), bracketed-long fs);
-  low = omega (arith, q .1 .small, x .low, spot-long b (l .from) (l .to) (q .1 .order) (q .1 .inside), q .1 .inside);
+  low = omega (arith, q .1 .small, x .low, part-length b (l .from) (l .to) (q .1 .order) (q .1 .inside), q .1 .inside);
 }
 
 -- no outputs, or some, by where they stand
 module _ (b : List ℕ) (from to : ℕ) (fs : Fields) (i : FieldsAre (spot b from to) fs) (h : from ≤ to) (k : to ≤ length b) where
   pub outputs-none : from ≡ to → returnsText fs ≡ []
-  outputs-none e = ap returnsText (none-left (spot b from to) 0 fs (i .sort) (i .d) (left-start (spot b from to) fs i) (omega (arith, spot-long b from to h k)))
+  outputs-none e = ap returnsText (none-left (spot b from to) 0 fs (i .sort) (i .d) (left-start (spot b from to) fs i) (omega (arith, part-length b from to h k)))
 
 outputs-by : (t : List ℕ) (fs : Fields) → FieldsAre t fs → (length t ≡ 0 → ⊥) → returnsText fs ≡ ascii " returns " ++ bracketed fs
 unfolding encodeFields
@@ -78,7 +75,7 @@ outputs-by t (moreFields f fs) i h = refl
 
 module _ (b : List ℕ) (from to : ℕ) (fs : Fields) (i : FieldsAre (spot b from to) fs) (h : from ≤ to) (k : to ≤ length b) where
   pub outputs-some : (from ≡ to → ⊥) → returnsText fs ≡ ascii " returns " ++ bracketed fs
-  outputs-some n = outputs-by (spot b from to) fs i (λ z. n (omega (arith, spot-long b from to h k)))
+  outputs-some n = outputs-by (spot b from to) fs i (λ z. n (omega (arith, part-length b from to h k)))
 
 module _ (b : List ℕ) (l : Measured) where
   pub returns-none : l .from ≡ l .to → ReturnsLong b l 0
@@ -108,14 +105,14 @@ module _ (b : List ℕ) (from to o : ℕ) (out : List ℕ) (q : ReturnsRoom b fr
     sizes fs i = ap length (is-text fs i) ∙ length-append word (bracketed fs)
 
     pub word-asks : o + 9 ≤ length out
-    word-asks = omega (arith, q .room, sizes (q .of) (q .is))
+    word-asks = omega (arith, q .room, sizes (q .some .0) (q .some .1))
 
     module _ (out₁ : List ℕ) (p : ℕ) (w : PutIn word o out out₁ p) where
       size : length out₁ ≡ length out
       size = put-size word o out out₁ p w (omega (arith, word-asks))
 
       pub outputs-ask : FieldsRoom (spot b from to) p out₁
-      outputs-ask = record { of = q .of; is = q .is; room = omega (arith, q .room, sizes (q .of) (q .is), size, w .1) }
+      outputs-ask = record { some = (q .some .0, q .some .1); room = omega (arith, q .room, sizes (q .some .0) (q .some .1), size, w .1) }
 
       pub all-returned : (out₂ : List ℕ) (r : ℕ) → FieldsWrote (spot b from to) p out₁ out₂ r → ReturnsWrote b from to o out out₂ r
       all-returned out₂ r x fs i h =
@@ -149,7 +146,7 @@ module _ (b : List ℕ) (s : Spot) (i u : Measured) (front back : List ℕ) wher
     long₃ = length-append line₂ (bracketed (p .ins))
 
     long₂ : length line₂ ≡ length front + (s .to - s .from)
-    long₂ = length-append front (p .name) ∙ ap (λ n. length front + n) (sym (ap length (p .named .there)) ∙ spot-long b (s .from) (s .to) (p .named .order) (p .named .inside))
+    long₂ = length-append front (p .name) ∙ ap (λ n. length front + n) (sym (ap length (p .named .there)) ∙ part-length b (s .from) (s .to) (p .named .order) (p .named .inside))
 
     line-short : length (lineOf p) ≤ 2 * length b
     unfolding lineOf
@@ -189,7 +186,7 @@ module _ (b : List ℕ) (s : Spot) (i u : Measured) (front back : List ℕ) wher
       size₁ = put-size front 0 text text₁ p₁ w₁ front-asks
 
       pub name-asks : p₁ + length (spot b (s .from) (s .to)) ≤ length text₁
-      name-asks = omega (arith, size₁, w₁ .1, room q, line-long q, long₄ q, long₃ q, long₂ q, spot-long b (s .from) (s .to) (q .named .order) (q .named .inside))
+      name-asks = omega (arith, size₁, w₁ .1, room q, line-long q, long₄ q, long₃ q, long₂ q, part-length b (s .from) (s .to) (q .named .order) (q .named .inside))
 
       module _ (text₂ : List ℕ) (p₂ : ℕ) (w₂ : PutIn (spot b (s .from) (s .to)) p₁ text₁ text₂ p₂) where
         done₂ : (p : Line b s i u front back) → PutIn (line₂ p) 0 text text₂ p₂
@@ -202,7 +199,7 @@ module _ (b : List ℕ) (s : Spot) (i u : Measured) (front back : List ℕ) wher
         room₃ p = omega (arith, size₂, done₂ p .1, room p, line-long p, long₄ p, long₃ p)
 
         pub list-asks : FieldsRoom (spot b (i .from) (i .to)) p₂ text₂
-        list-asks = record { of = q .ins; is = q .inputs .is; room = room₃ q }
+        list-asks = record { some = (q .ins, q .inputs .is); room = room₃ q }
 
         module _ (text₃ : List ℕ) (p₃ : ℕ) (w₃ : FieldsWrote (spot b (i .from) (i .to)) p₂ text₂ text₃ p₃) where
           done₃ : (p : Line b s i u front back) → PutIn (line₃ p) 0 text text₃ p₃
@@ -225,16 +222,13 @@ module _ (b : List ℕ) (s : Spot) (i u : Measured) (front back : List ℕ) wher
             room₅ p = omega (arith, size₄, done₄ p .1, room p, line-long p)
 
             pub outs-ask : ReturnsRoom b (u .from) (u .to) p₄ text₄
-            outs-ask = record { of = q .outs; is = q .outputs .is; order = q .outputs .order; inside = q .outputs .inside; room = room₅ q }
+            outs-ask = record { some = (q .outs, q .outputs .is); order = q .outputs .order; inside = q .outputs .inside; room = room₅ q }
 
             module _ (text₅ : List ℕ) (p₅ : ℕ) (w₅ : ReturnsWrote b (u .from) (u .to) p₄ text₄ text₅ p₅) where
               done₅ : (p : Line b s i u front back) → PutIn (lineOf p) 0 text text₅ p₅
               done₅ p =
                   put-same (lineOf p) (line₄ p ++ returnsText (p .outs)) 0 text text₅ p₅ (same-line p)
                   (put-both (line₄ p) (returnsText (p .outs)) 0 text text₄ text₅ p₄ p₅ (done₄ p) (w₅ (p .outs) (p .outputs .is) (room₅ p)) (omega (arith, room p, ap length (same-line p))))
-
-              pub line-size : length text₅ ≡ length text
-              line-size = put-size (lineOf q) 0 text text₅ p₅ (done₅ q) (omega (arith, room q))
 
               pub line-ends : (r : Answer) → r ≡ Accepted p₅ → LineEnds b s i u front back text text₅ r
               line-ends r e p = ends-written (writes (lineOf p)) text r (lineOf p) text₅ (e ∙ ap Accepted (done₅ p .1 ∙ zero-add (length (lineOf p)))) refl (room p) (done₅ p .0)

@@ -28,22 +28,33 @@ pub record RecordThere (t : List ℕ) (k : ℕ) (body r : List ℕ) : Type 0 whe
   pub body-is : take (length body) (drop 6 t) ≡ body
   pub rest-is : drop (6 + length body) t ≡ r
 
-pub record-there : (t : List ℕ) (k : ℕ) (body r : List ℕ) → t ≡ recordOf 4 k body ++ r → k < 65536 → length t ≤ longestRecord → RecordThere t k body r
-unfolding recordOf
-record-there t k body r e h s =
-    let u : List ℕ = littleEndian 4 (6 + length body) in
-    let v : List ℕ = littleEndian 2 k in
-    let split : t ≡ u ++ (v ++ (body ++ r)) = e ∙ rw (append-assoc, append-assoc) in
-    let long : length t ≡ 6 + length body + length r = ap length split ∙ simp (length-append, le-length) (omega arith) in
-    let four : drop 4 t ≡ v ++ (body ++ r) = rw split (drop-at u (v ++ (body ++ r)) 4 (le-length 4 _)) in
-    let six : drop 6 t ≡ body ++ r = sym (drop-drop 2 4 t) ∙ rw four (drop-at v (body ++ r) 2 (le-length 2 k)) in
-    record {
-      size = rw (split, take-at u (v ++ (body ++ r)) 4 (le-length 4 _)) (le-read 4 (6 + length body) (omega arith));
-      kind = rw (four, take-at v (body ++ r) 2 (le-length 2 k)) (le-read 2 k h);
-      inside = omega arith;
-      body-is = rw (six, take-at body r (length body) refl);
-      rest-is = sym (drop-drop (length body) 6 t) ∙ rw (six, drop-at body r (length body) refl);
-    }
+module _ (t : List ℕ) (k : ℕ) (body r : List ℕ) (e : t ≡ recordOf 4 k body ++ r) where
+  abbrev size-bytes : List ℕ
+  size-bytes = littleEndian 4 (6 + length body)
+
+  abbrev kind-bytes : List ℕ
+  kind-bytes = littleEndian 2 k
+
+  apart : t ≡ size-bytes ++ (kind-bytes ++ (body ++ r))
+  unfolding recordOf
+  apart = e ∙ rw (append-assoc, append-assoc)
+
+  behind-size : drop 4 t ≡ kind-bytes ++ (body ++ r)
+  behind-size = ap (drop 4) apart ∙ drop-at size-bytes (kind-bytes ++ (body ++ r)) 4 (le-length 4 _)
+
+  pub behind-head : drop 6 t ≡ body ++ r
+  behind-head = sym (drop-drop 2 4 t) ∙ ap (drop 2) behind-size ∙ drop-at kind-bytes (body ++ r) 2 (le-length 2 k)
+
+  pub record-there : k < 65536 → length t ≤ longestRecord → RecordThere t k body r
+  record-there h s =
+      let long : length t ≡ 6 + length body + length r = ap length apart ∙ simp (length-append, le-length) (omega arith) in
+      record {
+        size = ap (λ x. leValue (take 4 x)) apart ∙ ap leValue (take-at size-bytes (kind-bytes ++ (body ++ r)) 4 (le-length 4 _)) ∙ le-read 4 (6 + length body) (omega arith);
+        kind = ap (λ x. leValue (take 2 x)) behind-size ∙ ap leValue (take-at kind-bytes (body ++ r) 2 (le-length 2 k)) ∙ le-read 2 k h;
+        inside = omega arith;
+        body-is = ap (take (length body)) behind-head ∙ take-at body r (length body) refl;
+        rest-is = sym (drop-drop (length body) 6 t) ∙ ap (drop (length body)) behind-head ∙ drop-at body r (length body) refl;
+      }
 
 -- Fields, one behind the other.
 
@@ -85,6 +96,7 @@ pub record Step (b : List ℕ) (at : ℕ) (gs : Fields) (sort : Sort) (d l : ℕ
   pub split : gs ≡ moreFields field fields
   pub low : 6 ≤ l
   pub inside : at + l ≤ length b
+  pub less : length (take (l - 6) (drop 6 (take (length b - at) (drop at b)))) < length b
   pub is : FieldIs (take (l - 6) (drop 6 (take (length b - at) (drop at b)))) field
   pub next : Left b (at + l) fields sort d
 
@@ -115,6 +127,7 @@ module _ (b : List ℕ) (at : ℕ) (gs : Fields) (sort : Sort) (d : ℕ) (s : Le
         split = here .split;
         low = omega arith;
         inside = omega (arith, here .there .inside, part-long);
+        less = omega (arith, ap length body, here .there .inside, part-long);
         is = record {
           same = body;
           small = omega (arith, ap length body, here .there .inside, part-long, s .small);

@@ -22,12 +22,12 @@ use Rattle.layout.specs.Buffer.{put}
 use Rattle.layout.proofs.Puts.{put-then, length-put}
 use Rattle.record.specs.Texts.{elementaryFrom, suffixesFrom, baseTextFrom, kindFrom}
 use Rattle.record.proofs.Equations.{base-elementary}
-use Rattle.record.proofs.Walk.{rest-length, body-length}
+use Rattle.record.proofs.Walk.{rest-length}
 use Rattle.abi.specs.Writes.{Room, Wrote}
 use Rattle.abi.specs.Writes as abi
 use Rattle.abi.proofs.Stores.{put-none, store-1}
 use Rattle.full.specs.Parts.{markIn, nameIn, kindIn, FieldsAre, FieldIs, KindIs, kindWritten, PutIn, FieldsRoom, FieldRoom, KindRoom, FieldsWrote, FieldWrote, KindWrote}
-use Rattle.full.proofs.There.{Left, Step, step-least, step, none-left, left-start, field-there, kind-record, kind-least, TupleThere, tuple-there, leaf-there}
+use Rattle.full.proofs.There.{Left, Step, step-least, step, none-left, left-start, field-there, kind-record, TupleThere, tuple-there, leaf-there}
 use Rattle.full.proofs.Measuring.{kind-here, name-here}
 
 -- a text put in, and one behind it
@@ -78,17 +78,14 @@ module _ (t : List ℕ) (k : FieldKind) (i : KindIs t k) (x : Elementary) (z : k
       rw (kindFrom, first, base, suffixes-text rest (k .suffixes) refl (i .suffixes-well) rest-small) (ap (λ b. some (writtenBase b ++ suffixesText (k .suffixes))) (sym z))
 
 module _ (t : List ℕ) (o : ℕ) (out : List ℕ) (q : KindRoom t o out) where
-  pub kind-long : 6 ≤ length t
-  kind-long = kind-least t (q .of) (q .is)
-
   module _ (n : ℕ) (e : n ≡ leValue (take 2 (drop 4 t))) where
     pub leaf-asks : (n ≡ 9 → ⊥) → abi.KindRoom t o out
     leaf-asks p =
-        let (x, z) = leaf-there t (q .of) (q .is) n e p in
-        let r = kind-record t (q .of) (q .is) in
+        let (x, z) = leaf-there t (q .some .0) (q .some .1) n e p in
+        let r = kind-record t (q .some .0) (q .some .1) in
         record {
           d = 0;
-          at = record { text = kindWritten (q .of); same = leaf-text t (q .of) (q .is) x z; room = q .room };
+          at = record { text = kindWritten (q .some .0); same = leaf-text t (q .some .0) (q .some .1) x z; room = q .room };
           low = omega (arith, r .size);
           inside = omega (arith, r .size, r .inside);
         }
@@ -109,15 +106,6 @@ module _ (t : List ℕ) (o : ℕ) (out : List ℕ) (q : KindRoom t o out) where
 
       found : (k : FieldKind) → KindIs t k → TupleThere t k l
       found k i = tuple-there t k i n e p l f
-
-      pub tuple-low : 6 ≤ l
-      tuple-low = found (q .of) (q .is) .low
-
-      pub tuple-inside : l ≤ length t
-      tuple-inside = found (q .of) (q .is) .inside
-
-      pub tuple-less : length body < length t
-      tuple-less = omega (arith, body-length t l tuple-inside, tuple-low, tuple-inside)
 
       -- for each kind that it may be
       module _ (k : FieldKind) (i : KindIs t k) (h : o + length (kindWritten k) ≤ length out) where
@@ -146,11 +134,11 @@ module _ (t : List ℕ) (o : ℕ) (out : List ℕ) (q : KindRoom t o out) where
               rw whole (put-both (bracketed inner) (suffixesText (k .suffixes)) o out out₁ out₂ s r first (y .all _ behind-text, y .end _ behind-text) (omega (arith, both, length-append (bracketed inner) (suffixesText (k .suffixes)))))
 
       pub tuple-asks : FieldsRoom body o out
-      tuple-asks = record { of = inner (q .of) (q .is) (q .room); is = found (q .of) (q .is) .is; room = omega (arith, both (q .of) (q .is) (q .room)) }
+      tuple-asks = record { some = (inner (q .some .0) (q .some .1) (q .room), found (q .some .0) (q .some .1) .is); room = omega (arith, both (q .some .0) (q .some .1) (q .room)) }
 
       module _ (out₁ : List ℕ) (s : ℕ) (w : FieldsWrote body o out out₁ s) where
         pub suffixes-asks : Room (suffixesFrom behind) s out₁
-        suffixes-asks = record { text = suffixesText (q .of .suffixes); same = behind-text (q .of) (q .is) (q .room); room = behind-room (q .of) (q .is) (q .room) out₁ s w }
+        suffixes-asks = record { text = suffixesText (q .some .0 .suffixes); same = behind-text (q .some .0) (q .some .1) (q .room); room = behind-room (q .some .0) (q .some .1) (q .room) out₁ s w }
 
         pub tuple-wrote : (out₂ : List ℕ) (r : ℕ) → Wrote (suffixesFrom behind) s out₁ out₂ r → KindWrote t o out out₂ r
         tuple-wrote out₂ r y k i h = second k i h out₁ s w out₂ r y
@@ -211,15 +199,15 @@ module _ (body : List ℕ) (o : ℕ) (out : List ℕ) (q : FieldRoom body o out)
             rw (written-parts f) (put-both kind (markText (markIn f) ++ nameText (nameIn f)) o out out₁ out₃ p r one d (omega (arith, sizes, length-append kind (markText (markIn f) ++ nameText (nameIn f)), length-append (markText (markIn f)) (nameText (nameIn f)))))
 
   pub field-kind-asks : KindRoom kindPart o out
-  field-kind-asks = record { of = kindIn (q .of); is = is-kind (q .of) (q .is) (q .room); room = omega (arith, sizes (q .of) (q .is) (q .room)) }
+  field-kind-asks = record { some = (kindIn (q .some .0), is-kind (q .some .0) (q .some .1) (q .room)); room = omega (arith, sizes (q .some .0) (q .some .1) (q .room)) }
 
   module _ (out₁ : List ℕ) (p : ℕ) (w : KindWrote kindPart o out out₁ p) (m : ℕ) (g : m ≡ leValue (take 2 (drop 0 body))) where
     pub field-mark-asks : p + length (markText m) ≤ length out₁
-    field-mark-asks = mark-room (q .of) (q .is) (q .room) out₁ p w m g
+    field-mark-asks = mark-room (q .some .0) (q .some .1) (q .room) out₁ p w m g
 
     module _ (out₂ : List ℕ) (s : ℕ) (x : PutIn (markText m) p out₁ out₂ s) where
       pub field-name-asks : s + length (nameText namePart) ≤ length out₂
-      field-name-asks = name-room (q .of) (q .is) (q .room) out₁ p w m g out₂ s x
+      field-name-asks = name-room (q .some .0) (q .some .1) (q .room) out₁ p w m g out₂ s x
 
       pub field-wrote : (out₃ : List ℕ) (r : ℕ) → PutIn (nameText namePart) s out₂ out₃ r → FieldWrote body o out out₃ r
       field-wrote out₃ r y f i h = all-put f i h out₁ p w m g out₂ s x out₃ r y
@@ -264,7 +252,7 @@ none-put b o out out₁ r h w fs a k = rw (none-here b fs a h) w
 
 pub none-room : (b : List ℕ) (o : ℕ) (out : List ℕ) → FieldsRoom b o out → length b ≡ 0 → o + 2 ≤ length out
 unfolding writtenList
-none-room b o out q h = omega (arith, q .room, ap (λ fs. length (bracketed fs)) (none-here b (q .of) (q .is) h))
+none-room b o out q h = omega (arith, q .room, ap (λ fs. length (bracketed fs)) (none-here b (q .some .0) (q .some .1) h))
 
 pub full-start : (b : List ℕ) (o : ℕ) (out : List ℕ) → FieldsRoom b o out → (length b ≡ 0 → ⊥) → FullOut b o out lparen 0 o out
 full-start b o out q h = record {
@@ -275,8 +263,8 @@ full-start b o out q h = record {
 }
 
 module _ (b : List ℕ) (o : ℕ) (out₀ : List ℕ) (c at p : ℕ) (out : List ℕ) (s : FullOut b o out₀ c at p out) where
-  abbrev ran : Run b o out₀ c at p out (s .ask .of) (s .ask .is)
-  ran = s .all (s .ask .of) (s .ask .is) (s .ask .room)
+  abbrev ran : Run b o out₀ c at p out (s .ask .some .0) (s .ask .some .1)
+  ran = s .all (s .ask .some .0) (s .ask .some .1) (s .ask .room)
 
   module _ (h : length b ≤ at) where
     module _ (fs : Fields) (a : FieldsAre b fs) (k : o + length (bracketed fs) ≤ length out₀) where
@@ -292,7 +280,7 @@ module _ (b : List ℕ) (o : ℕ) (out₀ : List ℕ) (c at p : ℕ) (out : List
           put-same (bracketed fs) (x .done ++ (rparen ∷ [])) o out₀ (set out p 41) (p + 1) last (put-both (x .done) (rparen ∷ []) o out₀ out (set out p 41) p (p + 1) (x .same, x .place) (store-1 out p 41 last-fits, refl) (omega (arith, k, ap length last)))
 
     pub full-closed : p + 1 ≤ length out
-    full-closed = last-fits (s .ask .of) (s .ask .is) (s .ask .room)
+    full-closed = last-fits (s .ask .some .0) (s .ask .some .1) (s .ask .room)
 
     pub full-end : FieldsWrote b o out₀ (set out p 41) (p + 1)
     full-end fs a k = ended fs a k
@@ -302,7 +290,7 @@ module _ (b : List ℕ) (o : ℕ) (out₀ : List ℕ) (c at p : ℕ) (out : List
     part = take (length b - at) (drop at b)
 
     pub full-least : 6 ≤ length part
-    full-least = step-least b at (ran .gs) (s .ask .is .sort) (s .ask .is .d) (ran .left) h
+    full-least = step-least b at (ran .gs) (s .ask .some .1 .sort) (s .ask .some .1 .d) (ran .left) h
 
     module _ (l : ℕ) (e : l ≡ leValue (take 4 (drop 0 part))) where
       abbrev item : List ℕ
@@ -341,8 +329,8 @@ module _ (b : List ℕ) (o : ℕ) (out₀ : List ℕ) (c at p : ℕ) (out : List
               place = x .1;
             }
 
-      abbrev now : Step b at (ran .gs) (s .ask .is .sort) (s .ask .is .d) l
-      now = stepped (s .ask .of) (s .ask .is) (s .ask .room)
+      abbrev now : Step b at (ran .gs) (s .ask .some .1 .sort) (s .ask .some .1 .d) l
+      now = stepped (s .ask .some .0) (s .ask .some .1) (s .ask .room)
 
       pub full-low : 6 ≤ l
       full-low = now .low
@@ -351,13 +339,13 @@ module _ (b : List ℕ) (o : ℕ) (out₀ : List ℕ) (c at p : ℕ) (out : List
       full-inside = now .inside
 
       pub full-room : p + 1 ≤ length out
-      full-room = omega (arith, fits (s .ask .of) (s .ask .is) (s .ask .room))
+      full-room = omega (arith, fits (s .ask .some .0) (s .ask .some .1) (s .ask .room))
 
       pub full-less : length item < length b
-      full-less = omega (arith, body-length part l (rw rest-length (omega (arith, now .inside))), now .inside, now .low)
+      full-less = now .less
 
       pub full-asks : FieldRoom item (p + 1) (set out p c)
-      full-asks = record { of = now .field; is = now .is; room = rw length-set (omega (arith, fits (s .ask .of) (s .ask .is) (s .ask .room))) }
+      full-asks = record { some = (now .field, now .is); room = rw length-set (omega (arith, fits (s .ask .some .0) (s .ask .some .1) (s .ask .room))) }
 
       pub full-next : (out₁ : List ℕ) (r : ℕ) → length out₁ ≡ length (set out p c) → FieldWrote item (p + 1) (set out p c) out₁ r → FullOut b o out₀ comma (at + l) r out₁
       full-next out₁ r z w = record { ask = s .ask; size = z ∙ length-set out p c ∙ s .size; inside = now .inside; all = λ fs a k. next-run fs a k out₁ r w }

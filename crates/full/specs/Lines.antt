@@ -16,7 +16,7 @@ use Rattle.layout.proofs.Answers.{Ends}
 use Rattle.record.specs.declared.Spot.{Spot}
 use Rattle.record.specs.declared.Measured.{Measured}
 use Rattle.record.specs.Says.{NameSaid}
-use Rattle.full.specs.Parts.{FieldsAre, PutIn}
+use Rattle.full.specs.Parts.{FieldsAre, SomeFields, PutIn}
 
 -- the bytes from a place up to another
 abbrev pub spot : List ℕ → ℕ → ℕ → List ℕ
@@ -54,11 +54,10 @@ ReturnsLong b l r = (fs : Fields) → Returned b l fs → r ≡ length (returnsT
 
 -- outputs from a place of the record up to another, with room for them at o
 pub record ReturnsRoom (b : List ℕ) (from to o : ℕ) (out : List ℕ) : Type 0 where
-  pub of : Fields
-  pub is : FieldsAre (spot b from to) of
+  pub some : SomeFields (spot b from to)
   pub order : from ≤ to
   pub inside : to ≤ length b
-  pub room : o + length (returnsText of) ≤ length out
+  pub room : o + length (returnsText (some .0)) ≤ length out
 
 abbrev pub ReturnsWrote : List ℕ → ℕ → ℕ → ℕ → List ℕ → List ℕ → ℕ → Type 0
 ReturnsWrote b from to o out out₁ r = (fs : Fields) → FieldsAre (spot b from to) fs → o + length (returnsText fs) ≤ length out → PutIn (returnsText fs) o out out₁ r

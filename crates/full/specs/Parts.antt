@@ -99,19 +99,16 @@ PutIn u o b b₁ r = (b₁ ≡ put o u b) × (r ≡ o + length u)
 
 -- something of which b is the encoding, with room for its text at o
 pub record FieldsRoom (b : List ℕ) (o : ℕ) (out : List ℕ) : Type 0 where
-  pub of : Fields
-  pub is : FieldsAre b of
-  pub room : o + length (bracketed of) ≤ length out
+  pub some : SomeFields b
+  pub room : o + length (bracketed (some .0)) ≤ length out
 
 pub record FieldRoom (body : List ℕ) (o : ℕ) (out : List ℕ) : Type 0 where
-  pub of : Field
-  pub is : FieldIs body of
-  pub room : o + length (writtenField of) ≤ length out
+  pub some : SomeField body
+  pub room : o + length (writtenField (some .0)) ≤ length out
 
 pub record KindRoom (t : List ℕ) (o : ℕ) (out : List ℕ) : Type 0 where
-  pub of : FieldKind
-  pub is : KindIs t of
-  pub room : o + length (kindWritten of) ≤ length out
+  pub some : SomeKind t
+  pub room : o + length (kindWritten (some .0)) ≤ length out
 
 abbrev pub FieldsWrote : List ℕ → ℕ → List ℕ → List ℕ → ℕ → Type 0
 FieldsWrote b o out out₁ r = (fs : Fields) → FieldsAre b fs → o + length (bracketed fs) ≤ length out → PutIn (bracketed fs) o out out₁ r

@@ -26,7 +26,7 @@ use Rattle.model.specs.Line.{canonicalText, signatureText, fieldText}
 use Rattle.model.specs.Answer.{Output, writes, refuses}
 use Rattle.model.specs.Calls.{canonicalOutput, signatureOutput, kindTextOutput, ofRecord, orWrongSort}
 use Rattle.model.specs.Written.{suffixesText, nameText, byMark, markWord, markText, writtenBase, writtenField, writtenList, writtenRest}
-use Rattle.model.specs.Full.{bracketed, mutabilityText, returnsText, anonymousText, fullText, fullOutput}
+use Rattle.model.specs.Full.{mutabilityText, returnsText, anonymousText, fullText, fullOutput}
 use Rattle.model.proofs.Bounds.{tested, record-size, field-size}
 use Rattle.model.proofs.Marks.{select-word}
 use Rattle.model.proofs.Records.{decode-exactly, decode-lone-exactly}

@@ -11,13 +11,13 @@ slice-aggregate-whole-2 : tie.Need-slice-aggregate-whole-2
 slice-aggregate-whole-2 c = search needs
 
 whole-requires : tie.Need-whole-requires
-whole-requires c κs = error-line (c .before .before .before .before .before .args .«record» .now) (λ j. omega (arith, c .before .before .before .before .shared-slice-known .given j)) (c .before .before .before .before .before .args .name) (c .before .before .before .before .before .args .inputs) (c .before .before .before .before .before .args .outputs) (c .before .before .before .before .before .pre)
+whole-requires c κs = error-line (c .before .before .before .before .before .pre) (λ j. omega (arith, c .before .before .before .before .shared-slice-known .given j))
 
 same-length : tie.Need-same-length
 same-length c = search needs
 
 returns : tie.Need-returns
-returns c = error-ends (c .before .before .before .before .before .before .before .before .args .«record» .now) (λ j. omega (arith, c .before .before .before .before .before .before .before .shared-slice-known .given j)) (c .before .before .before .before .before .before .before .before .args .name) (c .before .before .before .before .before .before .before .before .args .inputs) (c .before .before .before .before .before .before .before .before .args .outputs) (c .before .before .before .before .before .before .before .before .pre) _ _ _ (c .before .before .whole .ensures)
+returns c = error-ends (c .before .before .before .before .before .before .before .before .pre) (λ j. omega (arith, c .before .before .before .before .before .before .before .shared-slice-known .given j)) _ _ _ (c .before .before .whole .ensures)
 
 pub error-spec : {M : Type 1} → statement M
 error-spec =

@@ -1,6 +1,5 @@
 use native.Mathlib.Omega.{arith}
 use Rattle.full.proofs.Lines.{returns-none, returns-asks, returns-some}
-use borrow.Author.Needs.{needs}
 use Rattle.full.proofs.returns_length.Statement.{statement}
 use Rattle.full.proofs.returns_length.Tie as tie
 
