@@ -3,7 +3,7 @@
 
 Usage: tests/oracle/tables.py [--check]     ORACLE names the program that build.sh builds
 A row is a call, the room that it is lent and an input. Numbers, positions and lines are written here as document 02's
-tables have them. A record is the Rust's, of a text that document 02 says to be read the same: its bytes come from the
+tables have them; whole declarations are put together by its sentences. A record is the Rust's, of a text that document 02 says to be read the same: its bytes come from the
 oracle. An input is a text, or bytes where it is no UTF-8. With --check the files are compared instead of written; the exit status is then 1 if they differ.
 """
 import os
@@ -120,7 +120,87 @@ def kind_tuples():
         yield "kind_text", AMPLE, text, line(written)
 
 
-TABLES = (visibility, kind_tuples)
+# Order 4: whole declarations written out.
+
+def behind(words):
+    """Words, each behind a space; those that are absent are empty."""
+    return "".join(f" {word}" for word in words if word)
+
+
+def field(kind, mark="", name=""):
+    """ "A field is its kind, then a space and its mark word if any, then a space and its name if any." """
+    return kind + behind((mark, name))
+
+
+def listed(*fields):
+    """ "fields are parted by `,`" """
+    return f"({','.join(fields)})"
+
+
+def whole(keyword, name, inputs, stated="", outputs="()", anonymous=""):
+    """ "keyword; a space and the name (none for a constructor); the list; a space and the mutability word unless none is stated;
+    ` returns ` and the list if there are outputs; ` anonymous` where set" """
+    return keyword + behind([name]) + inputs + behind([stated]) + ("" if outputs == "()" else f" returns {outputs}") + behind([anonymous])
+
+
+def loosely(written):
+    """The same declaration, spelled with blanks and short kinds."""
+    for part, spelled in (("(", " ( "), (")", " )  "), (",", " ,"), ("uint256", "uint"), (")  [", ") [")):
+        written = written.replace(part, spelled)
+    return written.strip() + " ;"
+
+
+NAMES = ("returns", "pure", "memory", "calldata", "indexed", "anonymous", "function", "constructor", "external")
+
+
+def full_lines():
+    strings = [field("string", mark, name) for mark in ("memory", "calldata") for name in ("", "s")]
+    tuples = [field("()", "", "t"), field("()[2][]", "memory"), field("(()[0],(bool a)[] b)[18446744073709551615]", "calldata", "t")]
+    indexed = [field(kind, "indexed", name) for kind in ("uint256", "string", "()[]") for name in ("", "a")]
+    for stated in ("", "pure", "view", "payable"):
+        for outputs in (listed(), listed("bool"), listed(field("uint256[2]", "memory", "a"), field("uint256", "", "b"))):
+            yield whole("function", "f", listed("address", field("bytes32", "", "a")), stated, outputs)
+    yield whole("function", "f", listed(*strings, *tuples), "", listed(*tuples, *strings))
+    for stated in ("", "payable"):
+        for inputs in (listed(), listed("uint256"), listed(*strings), listed(*tuples)):
+            yield whole("constructor", "", inputs, stated)
+    for anonymous in ("", "anonymous"):
+        for inputs in (listed(), listed("bool", *indexed)):
+            yield whole("event", "e", inputs, anonymous=anonymous)
+    for inputs in (listed(), listed("int8", field("bytes", "", "a"), field("((bool a,function b),string)[2][]", "", "c"))):
+        yield whole("error", "e", inputs)
+    for name in NAMES:  # in lists of every sort, and in tuples
+        inside = field(listed(field("uint256", "", name), field("string", "", name), field("()[]", "", name)), "", "t")
+        yield whole("function", name, listed(field("uint256", "", name), inside), "pure", listed(field("string", "memory", name), field("bool", "", name)))
+        yield whole("constructor", "", listed(field("bytes", "calldata", name), inside))
+        yield whole("event", name, listed(field("uint256", "indexed", name), inside), anonymous="anonymous")
+        yield whole("error", name, listed(field("uint256", "", name), inside))
+
+
+def full_text():
+    for text, written in (
+        ("function f ( uint  a , bool ) external view returns ( string memory )", "function f(uint256 a,bool) view returns (string memory)"),
+        ("function f() returns ()", "function f()"), ("function f() public", "function f()"), ("constructor ( ) payable ;", "constructor() payable"),
+        ("event e(uint a, (uint indexed, string memory) indexed t) anonymous", "event e(uint256 a,(uint256 indexed,string memory) indexed t) anonymous"),
+        ("function returns(uint returns) pure returns(bool pure)", "function returns(uint256 returns) pure returns (bool pure)"),
+    ):
+        yield "full", AMPLE, text, line(written)
+    for written in full_lines():
+        yield "full", AMPLE, loosely(written), line(written)
+    for written in ("function f(uint256 a) view returns (bool)", "constructor()", "event e((bool a) indexed t) anonymous", "error e()"):
+        yield "full", len(written), written, line(written)
+        yield "full", len(written) - 1, written, no(20, 0)
+        yield "full", 0, written, no(20, 0)
+    sized = "[18446744073709551615]" * 8  # the line is longer than its record
+    yield "full", AMPLE, f"error e(bool{sized})", line(f"error e(bool{sized})")
+    many = "function f(" + ",".join(["uint"] * 817) + ")"  # and longer than any text that is read
+    yield "full", AMPLE, many, line(many.replace("uint", "uint256"))
+    for text in ("bool", "(uint)[2]"):  # "a field where a declaration is due"
+        yield "full_kind", AMPLE, text, no(15, 0)
+        yield "full_kind", 0, text, no(15, 0)
+
+
+TABLES = (visibility, kind_tuples, full_text)
 
 
 def as_bytes(text):

@@ -1,6 +1,7 @@
 // The tables of document 02. Standard input has a row a line: a call, the room that it is lent (`-`: ample), and its input, in which `\` and two hex
 // digits stand for a byte. Each row is printed with its answer; the file stdout has what the tables say.
-// A call on records is asked about the record that is read of the input, by the kind call for kind_text and by the general call else.
+// A call on records is asked about the record that is read of the input, by the kind call for kind_text and by the general call else; full_kind is the
+// full text call asked about a field's record.
 use libc::STDIN_FILENO;
 use model::Answer;
 use model::Call;
@@ -102,6 +103,11 @@ fn writes(call: &[u8]) -> bool {
     text::equal(call, b"canonical")
         || text::equal(call, b"signature")
         || text::equal(call, b"kind_text")
+        || writes_full(call)
+}
+
+fn writes_full(call: &[u8]) -> bool {
+    text::equal(call, b"full") || text::equal(call, b"full_kind")
 }
 
 fn what_of(call: &[u8]) -> Does {
@@ -134,6 +140,9 @@ fn read(call: &[u8], text: &[u8], out: &mut [u8]) -> Answer {
     if text::equal(call, b"kind") || text::equal(call, b"kind_text") {
         return kind_call::parse_kind(text, out);
     }
+    if text::equal(call, b"full_kind") {
+        return kind_call::parse_kind(text, out);
+    }
     declaration::parse_declaration(text, out)
 }
 
@@ -144,6 +153,9 @@ fn write(call: &[u8], record: &[u8], out: &mut [u8]) -> Answer {
     }
     if text::equal(call, b"signature") {
         return abi::signature(record, out);
+    }
+    if writes_full(call) {
+        return full::full_text(record, out);
     }
     abi::canonical(record, out)
 }
