@@ -7,7 +7,7 @@ use Prim.Native.Nat.{ℕ}
 use native.Mathlib.Omega.{arith}
 use lib.ListN.{length}
 use Rattle.model.specs.declared.Refusal.{Refusal}
-use Rattle.model.specs.declared.Refusal.the-variants.{NoRoom, Eos, ExpectOpen, ExpectClose, ExpectDeclaration, ExpectKeyword, ExpectIdentifier, ExpectEnd, TooLong, NotUtf8, TooDeep, InvalidBitWidth, InvalidByteLength, Unknown, NotWellFormed, WrongSort}
+use Rattle.model.specs.declared.Refusal.the-variants.{NotWellFormed, WrongSort}
 use Rattle.model.specs.declared.Answer.{Answer}
 use Rattle.model.specs.declared.Answer.the-variants.{Accepted, Refused}
 use Rattle.model.specs.Answer.{Output, writes, refuses, number, said, outcome, after, handed, refusalNumber}
@@ -15,6 +15,7 @@ use Rattle.model.specs.Tree.{Declaration, Field}
 use Rattle.model.specs.Line.{nameOf, fieldName}
 use Rattle.model.specs.Record.{decode, decodeLone}
 use Rattle.model.specs.Calls.{orWrongSort, nameBy, nameOutput}
+use Rattle.model.proofs.Numbers.{no-refusal-0}
 use Rattle.geusomin.specs.Told.{code, worth}
 
 module _ (a : Answer) where
@@ -33,30 +34,10 @@ module _ (a : Answer) where
 
 -- the name call: its output by the number that it tells
 
--- no refusal has the number 0
-number-is-not-0 : (w : Refusal) → number w ≡ 0 → ⊥
-unfolding number
-number-is-not-0 Eos e = omega arith
-number-is-not-0 ExpectOpen e = omega arith
-number-is-not-0 ExpectClose e = omega arith
-number-is-not-0 ExpectDeclaration e = omega arith
-number-is-not-0 ExpectKeyword e = omega arith
-number-is-not-0 ExpectIdentifier e = omega arith
-number-is-not-0 ExpectEnd e = omega arith
-number-is-not-0 TooLong e = omega arith
-number-is-not-0 NotUtf8 e = omega arith
-number-is-not-0 TooDeep e = omega arith
-number-is-not-0 InvalidBitWidth e = omega arith
-number-is-not-0 InvalidByteLength e = omega arith
-number-is-not-0 Unknown e = omega arith
-number-is-not-0 NotWellFormed e = omega arith
-number-is-not-0 WrongSort e = omega arith
-number-is-not-0 NoRoom e = omega arith
-
 handed-over : (o : Output) → refusalNumber o ≡ 0 → o ≡ writes (handed o)
 unfolding refusalNumber handed
 handed-over (writes u) e = refl
-handed-over (refuses w p) e = absurd (number-is-not-0 w e)
+handed-over (refuses w p) e = absurd (no-refusal-0 w e)
 
 -- a refusal of the name call stands at position 0
 pub record AtFront (o : Output) : Type 0 where

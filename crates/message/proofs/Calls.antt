@@ -2,14 +2,14 @@
 -- Assumes nothing.
 use mathlib.Core.Path.{_≡_, refl, sym, _∙_, ap}
 use mathlib.Core.Bool.{Bool, true, false}
-use mathlib.Core.List.{List, [], _∷_}
+use mathlib.Core.List.{List, []}
 use mathlib.Core.Option.{Option, none, some}
 use Prim.Native.Nat.{ℕ, _≤_}
 use native.Mathlib.Omega.{arith}
 use lib.Dec.{ltb}
 use lib.ListN.{length, take}
 use Rattle.model.specs.declared.Refusal.{Refusal}
-use Rattle.model.specs.declared.Refusal.the-variants.{Eos, ExpectOpen, ExpectClose, ExpectDeclaration, ExpectKeyword, ExpectIdentifier, ExpectEnd, TooLong, NotUtf8, TooDeep, InvalidBitWidth, InvalidByteLength, Unknown, NotWellFormed, WrongSort, NoRoom}
+use Rattle.model.specs.declared.Refusal.the-variants.{TooDeep, NoRoom}
 use Rattle.model.specs.declared.Keyword.{Keyword}
 use Rattle.model.specs.declared.Call.{Call}
 use Rattle.model.specs.declared.Answer.{Answer}
@@ -17,7 +17,7 @@ use Rattle.model.specs.declared.Answer.the-variants.{Accepted, Refused}
 use Rattle.model.specs.Tree.{Declaration}
 use Rattle.model.specs.Parser.{Ans, got, bad, deep}
 use Rattle.model.specs.Reading.{wanted, parse}
-use Rattle.model.specs.Record.{case, select, encode}
+use Rattle.model.specs.Record.{encode}
 use Rattle.model.specs.Answer.{Output, writes, accepted, refused, number, said, outcome, after}
 use Rattle.model.specs.Calls.{written, readOutput}
 use Rattle.model.specs.Message.{wording, messageText, messageBy, messageOf, messageOutput}
@@ -27,56 +27,29 @@ use Rattle.message.specs.Lines.{Put, soughtOf, orEmpty, placed, display}
 use Rattle.message.proofs.Writing.{put-empty, put-then, put-size, put-front, put-inside}
 use Rattle.message.proofs.Wordings.{wording-none}
 
--- the refusal that has a number
-refusalOf : ℕ → Refusal
-refusalOf n =
-    select (case 1 Eos ∷ case 2 ExpectOpen ∷ case 3 ExpectClose ∷ case 4 ExpectDeclaration ∷ case 5 ExpectKeyword ∷ case 6 ExpectIdentifier ∷ case 7 ExpectEnd ∷ case 8 TooLong ∷ case 9 NotUtf8 ∷ case 10 TooDeep ∷ case 11 InvalidBitWidth ∷ case 12 InvalidByteLength ∷ case 13 Unknown ∷ case 15 NotWellFormed ∷ case 16 WrongSort ∷ []) NoRoom n
-
-refusal-of : (w : Refusal) → refusalOf (number w) ≡ w
-unfolding refusalOf number
-refusal-of Eos = refl
-refusal-of ExpectOpen = refl
-refusal-of ExpectClose = refl
-refusal-of ExpectDeclaration = refl
-refusal-of ExpectKeyword = refl
-refusal-of ExpectIdentifier = refl
-refusal-of ExpectEnd = refl
-refusal-of TooLong = refl
-refusal-of NotUtf8 = refl
-refusal-of TooDeep = refl
-refusal-of InvalidBitWidth = refl
-refusal-of InvalidByteLength = refl
-refusal-of Unknown = refl
-refusal-of NotWellFormed = refl
-refusal-of WrongSort = refl
-refusal-of NoRoom = refl
-
-number-injective : (v w : Refusal) → number v ≡ number w → v ≡ w
-number-injective v w e = sym (refusal-of v) ∙ ap refusalOf e ∙ refusal-of w
-
 -- one call for another
 pub read-as : (c d : Call) (s : List ℕ) (r : Answer) → c ≡ d → said r ≡ outcome 1 (readOutput d s) → said r ≡ outcome 1 (readOutput c s)
 read-as c d s r e h = rw e h
 
 -- an accepted text with no room
 full : (n : ℕ) (k : Option Keyword) (s : List ℕ) (w : Refusal) (p : ℕ) (t : Bool) → refused (number w) p ≡ elim t [ true ↦ refused (number NoRoom) 0 | false ↦ accepted n ] → writes [] ≡ messageBy s p (wording w k)
-unfolding wording
+unfolding wording number
 full n k s w p true e =
     let f : number w ≡ number NoRoom = cc in
-    rw (number-injective w NoRoom f)
+    rw f
 full n k s w p false e = absurd (let z : _≡_ {A = ℕ} 0 1 = cc in omega arith)
 
 -- what a refusal tells of the reading
 of-refused : (s : List ℕ) (k : Option Keyword) (a : Ans Declaration) (w : Refusal) (p : ℕ) → refused (number w) p ≡ outcome 1 (written (encode 4) a) → messageOf s k a ≡ messageBy s p (wording w k)
-unfolding written outcome wording
+unfolding written outcome wording number
 of-refused s k (got d n) w p e = full (length (encode 4 d)) k s w p (ltb 1 (length (encode 4 d))) e
 of-refused s k (bad v q) w p e =
     let f : number v ≡ number w = cc in
     let g : q ≡ p = cc in
-    rw (number-injective v w f, g)
+    rw (f, g)
 of-refused s k (deep q) w p e =
     let f : number w ≡ number TooDeep = cc in
-    rw (number-injective w TooDeep f)
+    rw f
 
 -- and an acceptance
 of-accepted : (s : List ℕ) (k : Option Keyword) (a : Ans Declaration) (n : ℕ) → accepted n ≡ outcome 1 (written (encode 4) a) → messageOf s k a ≡ writes []

@@ -1,22 +1,30 @@
 -- The keyword that is wanted, and the wordings.
 -- Assumes nothing.
 use mathlib.Core.Path.{_≡_, refl, _∙_}
+use mathlib.Core.Logic.{inl, inr}
 use mathlib.Core.Bool.{Bool, true, false}
-use mathlib.Core.List.{List, [], _++_}
+use mathlib.Core.List.{List, [], _∷_, _++_}
 use mathlib.Core.Option.{Option, none, some}
-use Prim.Native.Nat.{ℕ, _+_, _≤_}
+use Prim.Native.Nat.{ℕ, zero, suc, _+_, _-_, _≤_, _<_}
 use native.Mathlib.Omega.{arith}
 use lib.ListN.{length}
+use types.Run.{OneOf}
 use Rattle.kinds.specs.Bytes.{ascii}
 use Rattle.model.specs.declared.Refusal.{Refusal}
-use Rattle.model.specs.declared.Refusal.the-variants.{Eos, ExpectOpen, ExpectClose, ExpectDeclaration, ExpectKeyword, ExpectIdentifier, ExpectEnd, TooLong, NotUtf8, TooDeep, InvalidBitWidth, InvalidByteLength, Unknown, NotWellFormed, WrongSort, NoRoom}
+use Rattle.model.specs.declared.Refusal.the-variants.{ExpectKeyword}
 use Rattle.model.specs.declared.Keyword.{Keyword}
 use Rattle.model.specs.declared.Keyword.the-variants as key
 use Rattle.model.specs.declared.Call.{Call}
 use Rattle.model.specs.declared.Call.the-variants as call
 use Rattle.model.specs.KindText.{starts}
 use Rattle.model.specs.Reading.{keywordText, wanted}
-use Rattle.model.specs.Message.{expected, wording}
+use Rattle.model.specs.Answer.{number}
+use Rattle.model.specs.Message.{expected, expectedKeyword, wordingCases, wording}
+use denote.Enum.Declared.{variants, tagOf}
+use Rattle.model.proofs.Refusal.{the-type}
+use Rattle.model.proofs.Decoding.{select-other}
+use Rattle.model.proofs.Numbers.{number-behind-7}
+use Rattle.model.proofs.Messages.{selected}
 use Rattle.message.specs.declared.Sought.{Sought}
 use Rattle.message.specs.declared.Sought.the-variants.{Word, Nothing}
 use Rattle.message.specs.Lines.{Put, soughtOf, orEmpty}
@@ -88,7 +96,7 @@ module _ (b b₁ : List ℕ) (r : ℕ) where
     names-error e p = put-as 0 b b₁ 14 27 _ _ r (rw e) (omega arith) p
 
   pub word-there : (k : Sought) (w : Keyword) → k ≡ Word w → Put 27 0 (ascii "expected " ++ keywordText w) b b₁ r → Put 27 0 (orEmpty (wording ExpectKeyword (soughtOf k))) b b₁ r
-  unfolding wording soughtOf
+  unfolding wording soughtOf number
   word-there k w e p = rw (e, soughtOf, wording) p
 
   module _ (w : Refusal) (k : Sought) where
@@ -97,32 +105,41 @@ module _ (b b₁ : List ℕ) (r : ℕ) where
     words v n u e f h p = put-as 0 b b₁ n 27 u _ r (f ∙ rw e) h p
 
 pub word-missing : (b : List ℕ) (k : Sought) → k ≡ Nothing → Put 27 0 (orEmpty (wording ExpectKeyword (soughtOf k))) b b 0
-unfolding wording soughtOf
+unfolding wording soughtOf number
 word-missing b k e = rw (e, soughtOf, wording) (put-none 27 0 b)
 
--- a refusal that has no wording
-pub wordless : (b : List ℕ) (w : Refusal) (k : Sought) (v : Refusal) → w ≡ v → orEmpty (wording v (soughtOf k)) ≡ [] → Put 27 0 (orEmpty (wording w (soughtOf k))) b b 0
-wordless b w k v e f = rw (e, f) (put-none 27 0 b)
+-- a refusal that has no wording: its place in the enum is behind the first seven, one of k places from n on
+abbrev places : ℕ → ℕ → List ℕ
+places n zero = []
+places n (suc k) = n ∷ places (suc n) k
+
+low-place : (n k x : ℕ) → OneOf (places n k) x → n ≤ x
+low-place n zero x o = absurd o
+low-place n (suc zero) x o = omega arith
+low-place n (suc (suc k)) x (inl o) = omega arith
+low-place n (suc (suc k)) x (inr o) = omega (arith, low-place (suc n) (suc k) x o)
+
+pub wordless : (b : List ℕ) (w : Refusal) (k : Sought) → OneOf (places 7 (length (variants the-type) - 7)) (tagOf the-type w) → Put 27 0 (orEmpty (wording w (soughtOf k))) b b 0
+unfolding wording number
+wordless b w k o =
+    let l : 7 < number w = number-behind-7 w (low-place 7 (length (variants the-type) - 7) (tagOf the-type w) o) in
+    rw (select-other (number w) (wordingCases (soughtOf k)) none (λ e. omega arith, (λ e. omega arith, (λ e. omega arith, (λ e. omega arith, (λ e. omega arith, (λ e. omega arith, (λ e. omega arith, tt))))))))
+    (put-none 27 0 b)
 
 -- a wording is not empty
+NotEmpty : Option (List ℕ) → Type 0
+NotEmpty o = length (orEmpty o) ≡ 0 → o ≡ none
+
+keyword-none : (k : Option Keyword) → NotEmpty (expectedKeyword k)
+unfolding NotEmpty
+keyword-none none h = refl
+keyword-none (some x) h = absurd (omega arith)
+
 pub wording-none : (w : Refusal) (k : Option Keyword) → length (orEmpty (wording w k)) ≡ 0 → wording w k ≡ none
-unfolding wording
-wording-none Eos k h = absurd (omega arith)
-wording-none ExpectOpen k h = absurd (omega arith)
-wording-none ExpectClose k h = absurd (omega arith)
-wording-none ExpectDeclaration k h = absurd (omega arith)
-wording-none ExpectKeyword none h = refl
-wording-none ExpectKeyword (some x) h = absurd (omega arith)
-wording-none ExpectIdentifier k h = absurd (omega arith)
-wording-none ExpectEnd k h = absurd (omega arith)
-wording-none TooLong k h = refl
-wording-none NotUtf8 k h = refl
-wording-none TooDeep k h = refl
-wording-none InvalidBitWidth k h = refl
-wording-none InvalidByteLength k h = refl
-wording-none Unknown k h = refl
-wording-none NotWellFormed k h = refl
-wording-none WrongSort k h = refl
-wording-none NoRoom k h = refl
+unfolding wording NotEmpty
+wording-none w k =
+    selected NotEmpty (wordingCases k) none (number w)
+    (λ h. absurd (omega arith), (λ h. absurd (omega arith), (λ h. absurd (omega arith), (λ h. absurd (omega arith), (keyword-none k, (λ h. absurd (omega arith), (λ h. absurd (omega arith), tt)))))))
+    (λ h. refl)
 
 pub ruleset wordings = (opens-function, opens-constructor, opens-event, opens-error, opens-nothing, wants-general, wants-function, wants-constructor, wants-event, wants-error, names-function, names-constructor, names-event, names-error, word-there, word-missing)

@@ -328,15 +328,7 @@ fn wording(out: &mut [u8], w: Refusal, k: Sought) -> usize
         Refusal::ExpectKeyword => expected_word(out, k),
         Refusal::ExpectIdentifier => expected(out, b"identifier"),
         Refusal::ExpectEnd => expected(out, b"end of declaration"),
-        Refusal::TooLong => 0,
-        Refusal::NotUtf8 => 0,
-        Refusal::TooDeep => 0,
-        Refusal::InvalidBitWidth => 0,
-        Refusal::InvalidByteLength => 0,
-        Refusal::Unknown => 0,
-        Refusal::NotWellFormed => 0,
-        Refusal::WrongSort => 0,
-        Refusal::NoRoom => 0,
+        _ => 0,
     }
 }
 

@@ -12,7 +12,7 @@ use borrow.Author.Tests.{ltb-false}
 use Rattle.kinds.specs.Bytes.{ascii}
 use Rattle.kinds.proofs.Decimal.{decimal-short}
 use Rattle.model.specs.declared.Refusal.{Refusal}
-use Rattle.model.specs.declared.Refusal.the-variants.{Eos, ExpectOpen, ExpectClose, ExpectDeclaration, ExpectKeyword, ExpectIdentifier, ExpectEnd, TooLong, NotUtf8, TooDeep, InvalidBitWidth, InvalidByteLength, Unknown, NotWellFormed, WrongSort, NoRoom}
+use Rattle.model.specs.declared.Refusal.the-variants.{TooLong}
 use Rattle.model.specs.declared.Keyword.{Keyword}
 use Rattle.model.specs.declared.Keyword.the-variants as key
 use Rattle.model.specs.declared.Call.{Call}
@@ -21,16 +21,16 @@ use Rattle.model.specs.Tree.{Declaration}
 use Rattle.model.specs.Parser.{Ans, got, bad, deep}
 use Rattle.model.specs.Reading.{keywordText, wanted, longestText, admit, parse}
 use Rattle.model.specs.Record.{Case, case, select}
-use Rattle.model.specs.Answer.{writes}
-use Rattle.model.specs.Message.{wording, reach, wholeFrom, wholeTo, ellipsis, context, hexDigit, hex, unicode, escapes, escape, escaped, messageText, messageBy, messageOf, messageOutput}
+use Rattle.model.specs.Answer.{number, writes}
+use Rattle.model.specs.Message.{expectedKeyword, wordingCases, wording, reach, wholeFrom, wholeTo, ellipsis, context, hexDigit, hex, unicode, escapes, escape, escaped, messageText, messageBy, messageOf, messageOutput}
 use Rattle.model.proofs.Sound.{refusal-within}
 
 -- what holds of every case and of the rest holds of what is selected
-abbrev Every : {A : Type 0} → (A → Type 0) → List (Case A) → Type 0
+abbrev pub Every : {A : Type 0} → (A → Type 0) → List (Case A) → Type 0
 Every P [] = Unit {0}
 Every P (case n a ∷ cs) = P a × Every P cs
 
-selected : {A : Type 0} (P : A → Type 0) (cs : List (Case A)) (d : A) (k : ℕ) → Every P cs → P d → P (select cs d k)
+pub selected : {A : Type 0} (P : A → Type 0) (cs : List (Case A)) (d : A) (k : ℕ) → Every P cs → P d → P (select cs d k)
 selected P [] d k h i = i
 selected P (case n a ∷ cs) d k h i = go (eqb n k) (selected P cs d k (h .1) i)
   where
@@ -98,25 +98,15 @@ abbrev AtMost : Option (List ℕ) → Type 0
 AtMost none = Unit {0}
 AtMost (some v) = length v ≤ 27
 
+keyword-wording-short : (k : Option Keyword) → AtMost (expectedKeyword k)
+keyword-wording-short none = tt
+keyword-wording-short (some k) = simp length-append (omega (arith, keyword-short k))
+
 wording-short : (w : Refusal) (k : Option Keyword) → AtMost (wording w k)
 unfolding wording
-wording-short Eos k = omega arith
-wording-short ExpectOpen k = omega arith
-wording-short ExpectClose k = omega arith
-wording-short ExpectDeclaration k = omega arith
-wording-short ExpectKeyword none = tt
-wording-short ExpectKeyword (some k) = simp length-append (omega (arith, keyword-short k))
-wording-short ExpectIdentifier k = omega arith
-wording-short ExpectEnd k = omega arith
-wording-short TooLong k = tt
-wording-short NotUtf8 k = tt
-wording-short TooDeep k = tt
-wording-short InvalidBitWidth k = tt
-wording-short InvalidByteLength k = tt
-wording-short Unknown k = tt
-wording-short NotWellFormed k = tt
-wording-short WrongSort k = tt
-wording-short NoRoom k = tt
+wording-short w k =
+    selected AtMost (wordingCases k) none (number w)
+    (omega arith, (omega arith, (omega arith, (omega arith, (keyword-wording-short k, (omega arith, (omega arith, tt))))))) tt
 
 -- no refusal of a reading call stands past the longest text
 place-short : (c : Call) (s : List ℕ) (w : Refusal) (p : ℕ) → parse c s ≡ bad w p → p ≤ longestText

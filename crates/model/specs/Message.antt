@@ -9,7 +9,7 @@ use lib.ListN.{length, take, drop}
 use Rattle.kinds.specs.Bytes.{ascii, quote, backslash}
 use Rattle.kinds.specs.Decimal.{decimal}
 use Rattle.model.specs.declared.Refusal.{Refusal}
-use Rattle.model.specs.declared.Refusal.the-variants.{Eos, ExpectOpen, ExpectClose, ExpectDeclaration, ExpectKeyword, ExpectIdentifier, ExpectEnd, TooLong, NotUtf8, TooDeep, InvalidBitWidth, InvalidByteLength, Unknown, NotWellFormed, WrongSort, NoRoom}
+use Rattle.model.specs.declared.Refusal.the-variants.{Eos, ExpectOpen, ExpectClose, ExpectDeclaration, ExpectKeyword, ExpectIdentifier, ExpectEnd}
 use Rattle.model.specs.declared.Keyword.{Keyword}
 use Rattle.model.specs.declared.Call.{Call}
 use Rattle.model.specs.Text.{span, one, isTail, validLength, part}
@@ -17,7 +17,7 @@ use Rattle.model.specs.Tree.{Declaration}
 use Rattle.model.specs.Parser.{Ans, got, bad, deep}
 use Rattle.model.specs.Reading.{keywordText, wanted, parse}
 use Rattle.model.specs.Record.{Case, case, select}
-use Rattle.model.specs.Answer.{Output, writes}
+use Rattle.model.specs.Answer.{number, Output, writes}
 
 -- "The wordings are those of `ParseErrorKind`, 5 naming the keyword wanted."
 abbrev pub expected : List ℕ → Option (List ℕ)
@@ -27,24 +27,20 @@ abbrev pub expectedKeyword : Option Keyword → Option (List ℕ)
 expectedKeyword none = none
 expectedKeyword (some k) = expected (keywordText k)
 
--- refusals 1 to 7 have a message
+-- refusals 1 to 7 have a message, by their numbers
+abbrev pub wordingCases : Option Keyword → List (Case (Option (List ℕ)))
+wordingCases k =
+    case (number Eos) (some (ascii "unexpected end of stream"))
+    ∷ case (number ExpectOpen) (expected (ascii "("))
+    ∷ case (number ExpectClose) (expected (ascii ")"))
+    ∷ case (number ExpectDeclaration) (expected (ascii "declaration"))
+    ∷ case (number ExpectKeyword) (expectedKeyword k)
+    ∷ case (number ExpectIdentifier) (expected (ascii "identifier"))
+    ∷ case (number ExpectEnd) (expected (ascii "end of declaration"))
+    ∷ []
+
 unfoldable pub wording : Refusal → Option Keyword → Option (List ℕ)
-wording Eos k = some (ascii "unexpected end of stream")
-wording ExpectOpen k = expected (ascii "(")
-wording ExpectClose k = expected (ascii ")")
-wording ExpectDeclaration k = expected (ascii "declaration")
-wording ExpectKeyword k = expectedKeyword k
-wording ExpectIdentifier k = expected (ascii "identifier")
-wording ExpectEnd k = expected (ascii "end of declaration")
-wording TooLong k = none
-wording NotUtf8 k = none
-wording TooDeep k = none
-wording InvalidBitWidth k = none
-wording InvalidByteLength k = none
-wording Unknown k = none
-wording NotWellFormed k = none
-wording WrongSort k = none
-wording NoRoom k = none
+wording w k = select (wordingCases k) none (number w)
 
 -- "up to ten bytes each side"
 abbrev pub reach : ℕ
