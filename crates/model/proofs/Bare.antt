@@ -26,17 +26,17 @@ use Rattle.model.proofs.Stands.{first, peek-first}
 use Rattle.model.proofs.Bounds.{tested}
 
 -- a kind with suffixes, taken apart
-arrays-base : (ss : List Suffix) (k : Kind) → baseOf (arrays k ss) ≡ baseOf k
+pub arrays-base : (ss : List Suffix) (k : Kind) → baseOf (arrays k ss) ≡ baseOf k
 unfolding arrays baseOf
 arrays-base [] k = refl
 arrays-base (o ∷ ss) k = arrays-base ss (Kind.array k o)
 
-arrays-suffixes : (ss : List Suffix) (k : Kind) → suffixesOf (arrays k ss) ≡ suffixesOf k ++ ss
+pub arrays-suffixes : (ss : List Suffix) (k : Kind) → suffixesOf (arrays k ss) ≡ suffixesOf k ++ ss
 unfolding arrays suffixesOf
 arrays-suffixes [] k = sym (append-nil (suffixesOf k))
 arrays-suffixes (o ∷ ss) k = arrays-suffixes ss (Kind.array k o) ∙ append-assoc (suffixesOf k) (o ∷ []) ss
 
-base-suffixes : (b : Base) → suffixesOf (baseKind b) ≡ []
+pub base-suffixes : (b : Base) → suffixesOf (baseKind b) ≡ []
 unfolding suffixesOf baseKind
 base-suffixes (elementary e) = refl
 base-suffixes (tuple fs) = refl

@@ -208,14 +208,14 @@ module _ (w : ℕ) {A : Type 0} (D : ℕ → List ℕ → Option A) (good : A �
       let (k, body, small, u, e) = R .to a g l in
       rw (u, ← append-nil (recordOf w k body), piece-read w k body [] small (rw (u, record-length) at l)) e
 
+  pub alone-from : (b : List ℕ) (a : A) → Bytes b → onPiece (pieceOf w b) (λ k body r. ended r (D k body)) ≡ some a → (good a ≡ true) × (b ≡ enc a)
+  alone-from b a h e =
+      piece-some w b _ h e (λ k body r c n. ended-some r _ n (λ u q.
+      let (g, v) = R .from k body a (c .bytes) q in
+      (g, c .parts ∙ ap (λ y. recordOf w k body ++ y) u ∙ append-nil _ ∙ sym v)))
+
   pub alone-exactly : (b : List ℕ) (a : A) → Bytes b → length b < 256 ^ w → (onPiece (pieceOf w b) (λ k body r. ended r (D k body)) ≡ some a) ↔ ((good a ≡ true) × (b ≡ enc a))
-  alone-exactly b a h l = (from, λ p. rw (p .1) (alone-to a (p .0) (rw (p .1) at l)))
-    where
-      from : onPiece (pieceOf w b) (λ k body r. ended r (D k body)) ≡ some a → (good a ≡ true) × (b ≡ enc a)
-      from e =
-          piece-some w b _ h e (λ k body r c n. ended-some r _ n (λ u q.
-          let (g, v) = R .from k body a (c .bytes) q in
-          (g, c .parts ∙ ap (λ y. recordOf w k body ++ y) u ∙ append-nil _ ∙ sym v)))
+  alone-exactly b a h l = (alone-from b a h, λ p. rw (p .1) (alone-to a (p .0) (rw (p .1) at l)))
 
   pub alone-injective : (a b : A) → good a ≡ true → good b ≡ true → length (enc a) < 256 ^ w → enc a ≡ enc b → a ≡ b
   alone-injective a b g k l u = Option·some-injective a b (sym (alone-to a g l) ∙ (rw u (alone-to b k (rw u at l))))

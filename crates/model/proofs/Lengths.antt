@@ -131,7 +131,7 @@ signature-by (Declaration.event a nm ins) u h e = absurd (let z : _≡_ {A = ℕ
 signature-by (Declaration.error nm ins) u h e = absurd (let z : _≡_ {A = ℕ} 0 1 = cc in omega arith)
 
 -- what a call on a record writes is what its text is of the tree that the record says
-refuses-not : {w : Refusal} {n : ℕ} {u : List ℕ} → refuses w n ≡ writes u → ⊥
+pub refuses-not : {w : Refusal} {n : ℕ} {u : List ℕ} → refuses w n ≡ writes u → ⊥
 refuses-not e = let z : _≡_ {A = ℕ} 0 1 = cc in omega arith
 
 text-of : (o : Option (List ℕ)) (u : List ℕ) → orWrongSort o ≡ writes u → o ≡ some u

@@ -26,3 +26,5 @@ pub mod Numbers
 pub mod Messages
 pub mod Demand
 pub mod Full
+pub mod Sheets
+pub mod SheetExamples

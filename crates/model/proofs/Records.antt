@@ -103,7 +103,7 @@ module _ (w : ℕ) where
     base-to (elementary x) g f = let (k, body, small, u, e) = elementary-to x g in (k, body, small, u, not-tuple k body x e (eqb k 0x9) refl)
     base-to (tuple fs) g f = (0x9, encodeFields w fs, lit< tt, refl, ap (onOption tuple) (S .to fs g (omega (arith, rw record-length at f))))
 
-    base-reads : Reads w (baseFrom T) (isBase d) (encodeBase w)
+    pub base-reads : Reads w (baseFrom T) (isBase d) (encodeBase w)
     unfolding baseFrom
     base-reads = record { from = λ k body b h e. base-from k body b h (eqb k 0x9) refl e; to = base-to }
 
@@ -146,7 +146,7 @@ module _ (w : ℕ) where
   fields-spells : (sort : Sort) (d : ℕ) (B : ℕ → List ℕ → Option Base) → Reads w B (isBase d) (encodeBase w) → Spells w (each w noField moreFields (fieldFrom w sort B)) (areFields sort d) (encodeFields w)
   fields-spells sort d B R = each-spells w noField moreFields (fieldFrom w sort B) (isField sort d) (encodeField w) (areFields sort d) (encodeFields w) (field-lists sort d) (field-reads sort d B R)
 
-  tuple-spells : (d : ℕ) → Spells w (tupleFrom w d) (λ fs. isBase d (tuple fs)) (encodeFields w)
+  pub tuple-spells : (d : ℕ) → Spells w (tupleFrom w d) (λ fs. isBase d (tuple fs)) (encodeFields w)
   unfolding tupleFrom isBase
   tuple-spells zero = record { from = λ b fs h e. absurd (Option·none-ne-some fs e); to = λ fs g f. absurd (false≢true g) }
   tuple-spells (suc d) = fields-spells Plain d (baseFrom (tupleFrom w d)) (base-reads (tupleFrom w d) d (tuple-spells d))
@@ -247,7 +247,7 @@ module _ (w : ℕ) where
       let sizes = simp (record-length, length-append) at f in
       (0x23, _, lit< tt, refl, name-part .to nm _ _ g₁ (omega arith) ∙ last-to Plain ins _ g₂ (omega arith))
 
-  declaration-reads : Reads w (decodeDeclaration w) isDeclaration (encode w)
+  pub declaration-reads : Reads w (decodeDeclaration w) isDeclaration (encode w)
   unfolding decodeDeclaration
   declaration-reads = record {
     from = select-sound w isDeclaration (encode w) (case 0x20 (functionFrom w) ∷ case 0x21 (constructorFrom w) ∷ case 0x22 (eventFrom w) ∷ case 0x23 (errorFrom w) ∷ []) (function-from, (constructor-from, (event-from, (error-from, tt))));

@@ -53,7 +53,7 @@ bare-mark Parameter true = refl
 bare-mark Parameter false = refl
 bare-mark Event l = refl
 
-bare-field : (sort : Sort) (d : ℕ) (b : Base) (ss : List Suffix) → (isBase d b ≡ true) × (all isSuffix ss ≡ true) → isField sort d (field unmarked [] b ss) ≡ true
+pub bare-field : (sort : Sort) (d : ℕ) (b : Base) (ss : List Suffix) → (isBase d b ≡ true) × (all isSuffix ss ≡ true) → isField sort d (field unmarked [] b ss) ≡ true
 unfolding isField marks
 bare-field sort d b ss h = both (bare-mark sort (canSpecifyLocation b ss)) (both (h .0) (h .1))
 

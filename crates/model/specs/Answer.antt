@@ -6,11 +6,11 @@ use Prim.Native.Nat.{ℕ}
 use lib.Dec.{ltb}
 use lib.ListN.{length, drop}
 use Rattle.model.specs.declared.Refusal.{Refusal}
-use Rattle.model.specs.declared.Refusal.the-variants.{Eos, ExpectOpen, ExpectClose, ExpectDeclaration, ExpectKeyword, ExpectIdentifier, ExpectEnd, TooLong, NotUtf8, TooDeep, InvalidBitWidth, InvalidByteLength, Unknown, NotWellFormed, WrongSort, NoRoom}
+use Rattle.model.specs.declared.Refusal.the-variants.{Eos, ExpectOpen, ExpectClose, ExpectDeclaration, ExpectKeyword, ExpectIdentifier, ExpectEnd, TooLong, NotUtf8, TooDeep, InvalidBitWidth, InvalidByteLength, Unknown, NotWellFormed, WrongSort, NoRoom, SheetTooLong, TooManyDeclarations, Repeated}
 use Rattle.model.specs.declared.Answer.{Answer}
 use Rattle.model.specs.declared.Answer.the-variants.{Accepted, Refused}
 
--- document 01's numbers
+-- the numbers of documents 01 and 02
 unfoldable pub number : Refusal → ℕ
 number Eos = 1
 number ExpectOpen = 2
@@ -28,6 +28,9 @@ number Unknown = 13
 number NotWellFormed = 15
 number WrongSort = 16
 number NoRoom = 20
+number SheetTooLong = 21
+number TooManyDeclarations = 22
+number Repeated = 23
 
 -- "an acceptance, or one refusal number and position"; an acceptance has the output's length
 pub data Outcome : Type 0 where

@@ -1,6 +1,6 @@
 // The types of the answers, shared by the definitions and the code. What each case means to the outside is in specs/Answer.antt.
 
-// Why a call refuses. The numbers of document 01 are in specs/Answer.antt.
+// Why a call refuses. The numbers of documents 01 and 02 are in specs/Answer.antt.
 pub enum Refusal {
     Eos,
     ExpectOpen,
@@ -18,6 +18,9 @@ pub enum Refusal {
     NotWellFormed,
     WrongSort,
     NoRoom,
+    SheetTooLong,
+    TooManyDeclarations,
+    Repeated,
 }
 
 // What a call answers: the length of what it wrote, or why it refuses and where.

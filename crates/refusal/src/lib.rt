@@ -1,4 +1,4 @@
-// The numbers of refusals, as document 01 gives them.
+// The numbers of refusals, as documents 01 and 02 give them.
 use model::Refusal;
 ghost use mathlib.Core.Path.{_≡_};
 ghost use Rattle.model.specs.Answer.{number};
@@ -23,5 +23,8 @@ pub fn number(refusal: Refusal) -> u32
         Refusal::NotWellFormed => 15,
         Refusal::WrongSort => 16,
         Refusal::NoRoom => 20,
+        Refusal::SheetTooLong => 21,
+        Refusal::TooManyDeclarations => 22,
+        Refusal::Repeated => 23,
     }
 }
