@@ -15,6 +15,7 @@ use Rattle.model.specs.Tree.{Declaration, Field}
 use Rattle.model.specs.Line.{nameOf, fieldName}
 use Rattle.model.specs.Record.{decode, decodeLone}
 use Rattle.model.specs.Calls.{orWrongSort, nameBy, nameOutput}
+use Rattle.model.specs.Sheet.{OnLine}
 use Rattle.model.proofs.Numbers.{no-refusal-0}
 use Rattle.geusomin.specs.Told.{code, worth}
 
@@ -31,6 +32,11 @@ module _ (a : Answer) where
   pub told : (o : Output) (b b₁ : List ℕ) (r v : ℕ) → said a ≡ outcome (length b) o → b₁ ≡ after b o → r ≡ code (said a) → v ≡ worth (said a)
       → (r ≡ code (outcome (length b) o)) × ((v ≡ worth (outcome (length b) o)) × (b₁ ≡ after b o))
   told o b b₁ r v e g h k = (h ∙ ap code e, (k ∙ ap worth e, g))
+
+  -- and one that tells a line
+  pub told-lined : (o : OnLine) (b b₁ : List ℕ) (r v n : ℕ) → said a ≡ outcome (length b) (o .output) → b₁ ≡ after b (o .output) → n ≡ o .line → r ≡ code (said a) → v ≡ worth (said a)
+      → (r ≡ code (outcome (length b) (o .output))) × ((v ≡ worth (outcome (length b) (o .output))) × ((b₁ ≡ after b (o .output)) × (n ≡ o .line)))
+  told-lined o b b₁ r v n e g l h k = let t = told (o .output) b b₁ r v e g h k in (t .0, (t .1 .0, (t .1 .1, l)))
 
 -- the name call: its output by the number that it tells
 

@@ -8,6 +8,7 @@ ghost use Rattle.model.specs.Answer.{writes, said, outcome, after};
 ghost use Rattle.model.specs.Calls.{readOutput, kindOutput, canonicalOutput, signatureOutput, kindTextOutput, nameOutput};
 ghost use Rattle.model.specs.Full.{fullOutput};
 ghost use Rattle.model.specs.Message.{messageOutput};
+ghost use Rattle.model.specs.Sheet.{OnLine, sheetOutput};
 ghost use Rattle.geusomin.specs.Told.{code, worth};
 
 // An answer in two numbers.
@@ -87,6 +88,21 @@ pub extern "C" fn geusomin_parse_kind(text: &[u8], record: &mut [u8], value: &mu
     ensures left { λ _. ⌜ now («record» .exit) ≡ after (now («record» .entry)) (kindOutput (now (text .entry))) ⌝ }
 {
     tell(kind_call::parse_kind(text, record), value)
+}
+
+#[no_mangle]
+pub extern "C" fn geusomin_parse_sheet(
+    text: &[u8],
+    record: &mut [u8],
+    value: &mut usize,
+    line: &mut usize,
+) -> u32
+    ensures tells { λ r. ⌜ r ≡ code (outcome (length (now («record» .entry))) (sheetOutput (now (text .entry)) .output)) ⌝ }
+    ensures shows { λ _. ⌜ now (value .exit) ≡ worth (outcome (length (now («record» .entry))) (sheetOutput (now (text .entry)) .output)) ⌝ }
+    ensures left { λ _. ⌜ now («record» .exit) ≡ after (now («record» .entry)) (sheetOutput (now (text .entry)) .output) ⌝ }
+    ensures lined { λ _. ⌜ now (line .exit) ≡ sheetOutput (now (text .entry)) .line ⌝ }
+{
+    tell(sheet::parse_sheet(text, record, line), value)
 }
 
 #[no_mangle]
