@@ -4,16 +4,17 @@ use mathlib.Core.Path.{_≡_, refl, sym, _∙_, ap}
 use mathlib.Core.Bool.{Bool, true, false, _||_, false≢true, or-true, or-false}
 use mathlib.Core.List.{List, [], _∷_, _++_}
 use mathlib.Core.Option.{Option, none, some}
-use Prim.Native.Nat.{ℕ, _+_, _*_, _%_, _≤_, _<_}
+use Prim.Native.Nat.{ℕ, suc, _+_, _≤_, _<_}
 use native.Mathlib.Omega.{arith}
 use native.Mathlib.Numerals.{add-one}
 use lib.Dec.{ltb, eqb}
 use lib.ListN.{length, take, drop, getD, length-append, length-drop, drop-of-length-le}
-use lib.Seq.{take-suc, drop-cons, take-at}
+use lib.Seq.{take-suc, drop-cons, drop-drop, take-at}
 use borrow.Author.Tests.{le-ltb, ltb-false, eq-eqb, ne-eqb}
 use Rattle.model.specs.declared.Refusal.{Refusal}
 use Rattle.model.specs.declared.Answer.{Answer}
 use Rattle.model.specs.declared.Answer.the-variants.{Accepted, Refused}
+use Rattle.model.specs.Layout.{leValue}
 use Rattle.model.specs.Tree.{Declaration}
 use Rattle.model.specs.Record.{encode, decode}
 use Rattle.model.specs.Line.{canonicalText}
@@ -23,12 +24,30 @@ use Rattle.model.specs.Sheet.{repeats, has}
 use Rattle.model.proofs.Records.{decode-exactly, encode-bytes}
 use Rattle.model.proofs.Sheets.{repeats-same}
 use Rattle.layout.proofs.Answers.{keeps-length, accepted-is, after-written}
-use Rattle.repeat.specs.Prints.{print, printText, printIn, printsOf, any, OneRecord, PrintIs}
+use Rattle.repeat.specs.Prints.{mixed, print, printText, printIn, printsOf, any, OneRecord, PrintIs}
 
--- one byte more, and none
-pub print-more : (t : List ℕ) (h i v g : ℕ) → i < length t → v ≡ getD t i 0 → g ≡ print h (drop i t) → g ≡ print ((h * 16777619 + v) % 4294967296) (drop (i + 1) t)
+-- four bytes more, where there are so many; one byte more, where there are not; and none
+four-first : (h : ℕ) (u : List ℕ) → 4 ≤ length u → print h u ≡ print (mixed h (leValue (take 4 u))) (drop 4 u)
 unfolding print
-print-more t h i v g l e q = q ∙ ap (print h) (drop-cons t i 0 l) ∙ rw (add-one, e) refl
+four-first h (a ∷ b ∷ c ∷ d ∷ t) l = refl
+four-first h (a ∷ b ∷ c ∷ []) l = absurd (omega arith)
+four-first h (a ∷ b ∷ []) l = absurd (omega arith)
+four-first h (a ∷ []) l = absurd (omega arith)
+four-first h [] l = absurd (omega arith)
+
+one-first : (h c : ℕ) (u : List ℕ) → length u < 3 → print h (c ∷ u) ≡ print (mixed h c) u
+unfolding print
+one-first h c [] l = refl
+one-first h c (a ∷ []) l = refl
+one-first h c (a ∷ b ∷ []) l = refl
+one-first h c (a ∷ b ∷ d ∷ u) l = absurd (omega arith)
+
+module _ (t : List ℕ) (h i v r g : ℕ) (m : r ≡ mixed h v) (q : g ≡ print h (drop i t)) where
+  pub print-four : i + 4 ≤ length t → v ≡ leValue (take 4 (drop i t)) → g ≡ print r (drop (i + 4) t)
+  print-four l e = q ∙ four-first h (drop i t) (rw length-drop (omega arith)) ∙ rw (m, e, drop-drop 4 i t)
+
+  pub print-one : i < length t → length t < i + 4 → v ≡ getD t i 0 → g ≡ print r (drop (i + 1) t)
+  print-one l k e = q ∙ ap (print h) (drop-cons t i 0 l) ∙ one-first h (getD t i 0) (drop (suc i) t) (rw length-drop (omega arith)) ∙ rw (m, e, add-one)
 
 pub print-end : (t : List ℕ) (h i g : ℕ) → length t ≤ i → g ≡ print h (drop i t) → g ≡ h
 unfolding print

@@ -1,12 +1,12 @@
 -- Lines one behind the other, and what is written of one.
 -- Assumes nothing.
 use mathlib.Core.Path.{_≡_, refl, sym, _∙_, ap, ap₂}
-use mathlib.Core.Bool.{Bool, true, false, not, false≢true}
+use mathlib.Core.Bool.{Bool, true, false, _&&_, _||_, not, false≢true}
 use mathlib.Core.List.{List, [], _∷_, _++_, append-nil}
 use Prim.Native.Nat.{ℕ, suc, _+_, _-_, _≤_, _<_}
 use native.Mathlib.Omega.{arith}
 use lib.Dec.{ltb, eqb}
-use lib.ListN.{length, take, drop, getD, length-append, length-drop, drop-of-length-le}
+use lib.ListN.{length, take, drop, getD, length-append, length-drop, drop-of-length-le, take-append-drop}
 use lib.Seq.{length-take-le, drop-drop, take-length}
 use borrow.Author.Tests.{le-ltb, ltb-false, eq-eqb, ne-eqb}
 use Rattle.model.specs.declared.Refusal.{Refusal}
@@ -21,11 +21,14 @@ use Rattle.model.specs.Record.{encode}
 use Rattle.model.specs.Answer.{accepted, refused, number, Output, writes, refuses, said, outcome, after}
 use Rattle.model.specs.Calls.{written, readOutput}
 use Rattle.model.specs.Sheet.{lineFeed, linesOf, isBlankLine}
-use Rattle.model.proofs.Scans.{part-rest, scan-end, bytes-stop, bytes-more}
+use Rattle.kinds.specs.Bytes.{all}
+use Rattle.kinds.proofs.Logic.{both}
+use Rattle.model.proofs.Scans.{part-rest, span-bytes, scan-end, bytes-stop, bytes-more}
 use Rattle.text.specs.Found.{Skipped}
 use Rattle.layout.specs.Buffer.{put}
+use Rattle.repeat.specs.Prints.{any}
 use Rattle.layout.proofs.Answers.{keeps-length, accepted-is, after-written}
-use Rattle.sheet.specs.Lines.{lineLength, LineEnds, LineWritten}
+use Rattle.sheet.specs.Lines.{lineLength, SameLine, LineEnds, LineWritten}
 
 -- the lines of a text: the first, and those behind its line feed
 pub split-feed : (t : List ℕ) → lineLength t < length t → linesOf t ≡ take (lineLength t) t ∷ linesOf (drop (suc (lineLength t)) t)
@@ -50,19 +53,50 @@ split-last (c ∷ t) h = go (eqb c lineFeed) refl (split-last t)
         let long : lineLength (c ∷ t) ≡ suc (lineLength t) = rw (lineLength, spanFrom, e) refl in
         rw (linesOf, e) (rw (f (omega (arith, long, h))) refl)
 
+-- bytes without a line feed are passed
+none-feed : (w : List ℕ) → any (eqb lineFeed) w ≡ false → all (λ c. not (eqb c lineFeed)) w ≡ true
+unfolding any
+none-feed [] h = refl
+none-feed (c ∷ w) h = go (eqb lineFeed c) refl h (none-feed w)
+  where
+    go : (b : Bool) → eqb lineFeed c ≡ b → (b || any (eqb lineFeed) w) ≡ false → (any (eqb lineFeed) w ≡ false → all (λ d. not (eqb d lineFeed)) w ≡ true) → (not (eqb c lineFeed) && all (λ d. not (eqb d lineFeed)) w) ≡ true
+    go true q e f = absurd (false≢true (sym e))
+    go false q e f = both (ap not (ne-eqb c lineFeed (λ z. false≢true (sym q ∙ eq-eqb lineFeed c (sym z))))) (f e)
+
 -- the end of a line is looked for
-module _ (s : List ℕ) (i n : ℕ) (e : i + lineLength (drop i s) ≡ n) where
-  pub line-stop : i < length s → getD s i 0 ≡ lineFeed → i ≡ n
-  unfolding lineLength
-  line-stop l q = bytes-stop (λ c. not (eqb c lineFeed)) s i n (not (eqb (getD s i 0) lineFeed)) l refl (ap not (eq-eqb (getD s i 0) lineFeed q)) e
+pub line-here : (s : List ℕ) (at : ℕ) → at ≤ length s → SameLine s at at
+line-here s at h = record { place = refl; low = omega arith; inside = h }
 
-  pub line-more : i < length s → (getD s i 0 ≡ lineFeed → ⊥) → i + 1 + lineLength (drop (i + 1) s) ≡ n
+module _ (s : List ℕ) (at i : ℕ) (f : SameLine s at i) where
+  pub block-passed : (n e : ℕ) (r : Bool) → i + n ≤ length s → e ≡ i + n → r ≡ any (eqb lineFeed) (take (e - i) (drop i s)) → r ≡ false → SameLine s at (i + n)
   unfolding lineLength
-  line-more l q = bytes-more (λ c. not (eqb c lineFeed)) s i n (not (eqb (getD s i 0) lineFeed)) l refl (ap not (ne-eqb (getD s i 0) lineFeed q)) e
+  block-passed n e r h z q g =
+      let m : e - i ≡ n = omega arith in
+      let w : List ℕ = take n (drop i s) in
+      let l : length w ≡ n = length-take-le n (drop i s) (rw length-drop (omega arith)) in
+      let t : w ++ drop (i + n) s ≡ drop i s = ap (λ u. w ++ u) (sym (drop-drop n i s)) ∙ take-append-drop n (drop i s) in
+      let none : any (eqb lineFeed) w ≡ false = sym (rw m at q) ∙ g in
+      record {
+        place = omega (arith, f .place, l, ap lineLength t, span-bytes (one (λ c. not (eqb c lineFeed))) (λ c. not (eqb c lineFeed)) (λ c u y. rw (one, y)) w (drop (i + n) s) (none-feed w none));
+        low = omega (arith, f .low);
+        inside = h;
+      }
 
-  pub line-over : length s ≤ i → i ≡ n
+  pub line-stop : i < length s → getD s i 0 ≡ lineFeed → LineEnds s at i
   unfolding lineLength
-  line-over l = scan-end (one (λ c. not (eqb c lineFeed))) s i n l e
+  line-stop l q = record { place = bytes-stop (λ c. not (eqb c lineFeed)) s i _ (not (eqb (getD s i 0) lineFeed)) l refl (ap not (eq-eqb (getD s i 0) lineFeed q)) (f .place); low = f .low; inside = f .inside }
+
+  pub line-more : i < length s → (getD s i 0 ≡ lineFeed → ⊥) → SameLine s at (i + 1)
+  unfolding lineLength
+  line-more l q = record {
+    place = bytes-more (λ c. not (eqb c lineFeed)) s i _ (not (eqb (getD s i 0) lineFeed)) l refl (ap not (ne-eqb (getD s i 0) lineFeed q)) (f .place);
+    low = omega (arith, f .low);
+    inside = omega arith;
+  }
+
+  pub line-over : length s ≤ i → LineEnds s at i
+  unfolding lineLength
+  line-over l = record { place = scan-end (one (λ c. not (eqb c lineFeed))) s i _ l (f .place); low = f .low; inside = f .inside }
 
 module _ (s : List ℕ) (at e : ℕ) (h : LineEnds s at e) where
   pub length-is : lineLength (drop at s) ≡ e - at

@@ -4,10 +4,12 @@ use model::Answer;
 use model::Refusal;
 ghost use Prim.Native.Nat.{_+_, _*_, _-_, _≤_, _<_};
 ghost use mathlib.Core.Path.{_≡_};
+ghost use lib.Dec.{eqb};
 ghost use lib.ListN.{length, take, drop};
 ghost use Rattle.model.specs.Answer.{said, outcome, after};
-ghost use Rattle.model.specs.Sheet.{linesOf, readLines, OnLine, sheetBy, sheetOutput};
-ghost use Rattle.sheet.specs.Lines.{LineEnds, LineWritten, LinesFit, LinesWritten, NextLine, AskedAt, LineRepeats, AskedPrint, PrintRepeats, AskedBefore, HasBefore, RepeatNext, AskedCount, CountIs, AskedLine, LineTaken, SurveyIs, LinesRead, LinedEnds};
+ghost use Rattle.repeat.specs.Prints.{any};
+ghost use Rattle.model.specs.Sheet.{lineFeed, linesOf, readLines, OnLine, sheetBy, sheetOutput};
+ghost use Rattle.sheet.specs.Lines.{SameLine, LineEnds, LineWritten, LinesFit, LinesWritten, NextLine, AskedAt, LineRepeats, AskedPrint, PrintRepeats, AskedBefore, HasBefore, RepeatNext, AskedCount, CountIs, AskedLine, LineTaken, SurveyIs, LinesRead, LinedEnds};
 
 // "text over 65,536 bytes"
 const LONGEST_SHEET: usize = 65536;
@@ -49,12 +51,45 @@ pub enum Surveyed {
     },
 }
 
+// Whether a line feed is among some bytes: no early exit, so that several are looked at in one step.
+fn has_feed(t: &[u8]) -> bool
+    ensures { λ r. ⌜ r ≡ any (eqb lineFeed) (now (t .entry)) ⌝ }
+{
+    let mut found = false;
+    let mut i = 0;
+    while i < t.len() {
+        if t[i] == b'\n' {
+            found = true;
+        }
+        i += 1;
+    }
+    found
+}
+
+// How many bytes are looked at so.
+const BLOCK: usize = 16;
+
+// A place further on in the line at a place: behind blocks that have no line feed.
+fn pass_blocks(s: &[u8], at: usize) -> usize
+    requires { ⌜ at ≤ length (now s) ⌝ }
+    ensures { λ r. ⌜ SameLine (now (s .entry)) at r ⌝ }
+{
+    let mut i = at;
+    while BLOCK <= s.len() - i {
+        if has_feed(&s[i..i + BLOCK]) {
+            return i;
+        }
+        i += BLOCK;
+    }
+    i
+}
+
 // The place of the line feed that ends the line at a place, or the end of the text.
 fn line_end(s: &[u8], at: usize) -> usize
     requires { ⌜ at ≤ length (now s) ⌝ }
     ensures { λ r. ⌜ LineEnds (now (s .entry)) at r ⌝ }
 {
-    let mut i = at;
+    let mut i = pass_blocks(s, at);
     while i < s.len() {
         if s[i] == b'\n' {
             return i;
