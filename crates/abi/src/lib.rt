@@ -215,7 +215,7 @@ pub fn refused(refusal: Refusal) -> Answer
 }
 
 // "Name, `(`, kinds parted by `,`, `)`": the name and the list that stand at places of the record. The place behind the line.
-fn write_line(
+pub fn write_line(
     record: &[u8],
     from: usize,
     to: usize,

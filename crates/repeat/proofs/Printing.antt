@@ -75,7 +75,7 @@ module _ (t : List ℕ) (h i : ℕ) (r : Bool) (l : i < length t) (e : r ≡ any
 
 -- what is written of a record
 module _ (t : List ℕ) (p : OneRecord t) where
-  output-is : canonicalOutput t ≡ orWrongSort (canonicalText (p .declaration))
+  pub output-is : canonicalOutput t ≡ orWrongSort (canonicalText (p .declaration))
   unfolding canonicalOutput
   output-is =
       let b = p .one .bytes in

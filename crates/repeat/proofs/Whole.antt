@@ -28,7 +28,7 @@ use Rattle.model.proofs.Bounds.{record-size}
 use Rattle.model.proofs.Pieces.{le-length, piece-read}
 use Rattle.model.proofs.Scans.{part-rest}
 use Rattle.model.proofs.Sheets.{repeats-same}
-use Rattle.repeat.specs.Pairs.{ListIs, TwoLists, ListsSame, NamedIs, TwoNamed, NamedSame, RecordOf, Two, Repeats}
+use Rattle.repeat.specs.Pairs.{ListIs, TwoLists, ListsSame, NamedIs, TwoNamed, NamedSame, nameAt, RecordOf, Two, Repeats}
 use Rattle.repeat.proofs.Places.{length-at, kind-at, behind-head, body-at, rest-at, whole-length}
 use Rattle.repeat.proofs.Apart.{neither}
 
@@ -40,15 +40,15 @@ alike false false f g = refl
 
 -- a name and a list: where they stand
 module _ (t nm : List ℕ) (fs : Fields) (h : NamedIs t nm fs) where
-  name-shape : t ≡ recordOf 4 0x11 nm ++ (encodeList 4 fs ++ h .rest)
+  pub name-shape : t ≡ recordOf 4 0x11 nm ++ (encodeList 4 fs ++ h .rest)
   unfolding encodeName
   name-shape = h .bytes
 
-  name-fits : 6 + length nm < 256 ^ 4
+  pub name-fits : 6 + length nm < 256 ^ 4
   name-fits = omega (arith, h .small, ap length name-shape, length-append (recordOf 4 0x11 nm) (encodeList 4 fs ++ h .rest), record-size 0x11 nm)
 
   module _ (n : ℕ) (e : n ≡ leValue (take 4 (drop 0 t))) where
-    name-long : n ≡ 6 + length nm
+    pub name-long : n ≡ 6 + length nm
     name-long = e ∙ length-at 0x11 nm _ t name-shape name-fits
 
     name-bytes : take n t ≡ encodeName 4 nm
@@ -58,29 +58,29 @@ module _ (t nm : List ℕ) (fs : Fields) (h : NamedIs t nm fs) where
     abbrev behind : List ℕ
     behind = take (length t - n) (drop n t)
 
-    list-shape : behind ≡ recordOf 4 0x12 (encodeFields 4 fs) ++ h .rest
+    pub list-shape : behind ≡ recordOf 4 0x12 (encodeFields 4 fs) ++ h .rest
     unfolding encodeList
     list-shape = part-rest t n ∙ rest-at 0x11 nm _ t name-shape name-fits n name-long
 
     behind-long : length behind ≡ 6 + length (encodeFields 4 fs) + length (h .rest)
     behind-long = ap length list-shape ∙ length-append (recordOf 4 0x12 (encodeFields 4 fs)) (h .rest) ∙ rw record-size
 
-    name-inside : (6 ≤ n) × (n ≤ length t) × (6 ≤ length behind)
+    pub name-inside : (6 ≤ n) × (n ≤ length t) × (6 ≤ length behind)
     name-inside = omega (arith, name-long, behind-long, whole-length 0x11 nm _ t name-shape name-fits)
 
-    list-fits : 6 + length (encodeFields 4 fs) < 256 ^ 4
+    pub list-fits : 6 + length (encodeFields 4 fs) < 256 ^ 4
     list-fits = omega (arith, h .small, behind-long, ap length (part-rest t n), length-drop n t)
 
     module _ (p : ℕ) (f : p ≡ leValue (take 4 (drop 0 behind))) where
-      list-long : p ≡ 6 + length (encodeFields 4 fs)
+      pub list-long : p ≡ 6 + length (encodeFields 4 fs)
       list-long = f ∙ length-at 0x12 (encodeFields 4 fs) (h .rest) behind list-shape list-fits
 
-      list-is : ListIs (take (p - 6) (drop 6 behind)) fs
+      pub list-is : ListIs (take (p - 6) (drop 6 behind)) fs
       list-is =
           let x = body-at 0x12 (encodeFields 4 fs) (h .rest) behind list-shape list-fits p list-long in
           record { sort = h .sort; d = deepest; bytes = x; fields = h .fields; small = omega (arith, ap length x, h .small, behind-long, ap length (part-rest t n), length-drop n t) }
 
-      list-inside : (6 ≤ p) × (p ≤ length behind)
+      pub list-inside : (6 ≤ p) × (p ≤ length behind)
       list-inside = omega (arith, list-long, behind-long)
 
 -- names by their records
@@ -125,7 +125,7 @@ module _ (a b : List ℕ) where
             (λ z. (names p .0 o, q .0 z), λ z. q .1 (z .1))
 
 -- the number of a declaration's record, and its body
-codeIn : Declaration → ℕ
+pub codeIn : Declaration → ℕ
 codeIn (Declaration.function m nm ins outs) = 0x20
 codeIn (Declaration.constructor m ins) = 0x21
 codeIn (Declaration.event x nm ins) = 0x22
@@ -180,7 +180,7 @@ module _ (t : List ℕ) (d : Declaration) (h : RecordOf t d) where
   body-fits : 6 + length (bodyIn d) < 256 ^ 4
   body-fits = omega (arith, short, long)
 
-  code-is : leValue (take 2 (drop 4 t)) ≡ codeIn d
+  pub code-is : leValue (take 2 (drop 4 t)) ≡ codeIn d
   code-is = kind-at (codeIn d) (bodyIn d) [] t shape body-fits (code-small d)
 
   body-is : drop 6 t ≡ bodyIn d
@@ -193,6 +193,9 @@ module _ (t : List ℕ) (d : Declaration) (h : RecordOf t d) where
   valid : isDeclaration d ≡ true
   unfolding wellFormed
   valid = left (leb (length (encode 4 d)) longestRecord) (h .well)
+
+pub record-long : (t : List ℕ) (d : Declaration) → RecordOf t d → 8 ≤ length t
+record-long t d h = omega (arith, long t d h, body-long d)
 
 -- the word that a declaration begins with, by the number of its record, and the number by the word
 wordBy : ℕ → List ℕ
@@ -216,12 +219,12 @@ code-by (Declaration.event x nm ins) = refl
 code-by (Declaration.error nm ins) = refl
 
 -- a declaration with a name: the name and the list behind n bytes of its record, and its canonical text
-record Named (n : ℕ) (t : List ℕ) (d : Declaration) : Type 0 where
-  name : List ℕ
-  fields : Fields
-  is : NamedIs (take (length t - n) (drop n t)) name fields
-  word : isWord name ≡ true
-  text : canonicalText d ≡ some (canonical (record { name = name; kinds = kindsOf fields }))
+pub record Named (n : ℕ) (t : List ℕ) (d : Declaration) : Type 0 where
+  pub name : List ℕ
+  pub fields : Fields
+  pub is : NamedIs (take (length t - n) (drop n t)) name fields
+  pub word : isWord name ≡ true
+  pub text : canonicalText d ≡ some (canonical (record { name = name; kinds = kindsOf fields }))
 
 module _ (t : List ℕ) (d : Declaration) (h : RecordOf t d) (n : ℕ) (nm : List ℕ) (fs : Fields) (sort : Sort) (r : List ℕ) where
   named-is : drop n t ≡ encodeName 4 nm ++ (encodeList 4 fs ++ r) → areFields sort deepest fs ≡ true → NamedIs (take (length t - n) (drop n t)) nm fs
@@ -230,29 +233,22 @@ module _ (t : List ℕ) (d : Declaration) (h : RecordOf t d) (n : ℕ) (nm : Lis
 last-list : (nm : List ℕ) (fs : Fields) → encodeName 4 nm ++ encodeList 4 fs ≡ encodeName 4 nm ++ (encodeList 4 fs ++ [])
 last-list nm fs = ap (λ u. encodeName 4 nm ++ u) (sym (append-nil (encodeList 4 fs)))
 
-named-error : (t : List ℕ) (d : Declaration) → RecordOf t d → codeIn d ≡ 0x23 → Named 6 t d
+pub named-at : (t : List ℕ) (d : Declaration) → RecordOf t d → (codeIn d ≡ 0x21 → ⊥) → Named (nameAt (codeIn d)) t d
 unfolding codeIn bodyIn isDeclaration canonicalText nameKinds
-named-error t (Declaration.function m nm ins outs) h z = absurd (omega arith)
-named-error t (Declaration.constructor m ins) h z = absurd (omega arith)
-named-error t (Declaration.event x nm ins) h z = absurd (omega arith)
-named-error t (Declaration.error nm ins) h z =
-    let d = Declaration.error nm ins in
-    record { name = nm; fields = ins; is = named-is t d h 6 nm ins Plain [] (body-is t d h ∙ last-list nm ins) (right (isWord nm) (valid t d h)); word = left (areFields Plain deepest ins) (valid t d h); text = refl }
-
-named-other : (t : List ℕ) (d : Declaration) → RecordOf t d → (codeIn d ≡ 0x21 → ⊥) → (codeIn d ≡ 0x23 → ⊥) → Named 8 t d
-unfolding codeIn bodyIn isDeclaration canonicalText nameKinds
-named-other t (Declaration.function m nm ins outs) h y z =
+named-at t (Declaration.function m nm ins outs) h z =
     let d = Declaration.function m nm ins outs in
     let g = right (leb m 3) (valid t d h) in
     record { name = nm; fields = ins; is = named-is t d h 8 nm ins Parameter (encodeList 4 outs) (behind-number t d h m _ refl) (left (areFields Parameter deepest outs) (right (isWord nm) g)); word = left _ g; text = refl }
-named-other t (Declaration.constructor m ins) h y z = absurd (y refl)
-named-other t (Declaration.event x nm ins) h y z =
+named-at t (Declaration.constructor m ins) h z = absurd (z refl)
+named-at t (Declaration.event x nm ins) h z =
     let d = Declaration.event x nm ins in
     let g = right (leb x 1) (valid t d h) in
     record { name = nm; fields = ins; is = named-is t d h 8 nm ins Event [] (behind-number t d h x _ refl ∙ last-list nm ins) (right (isWord nm) g); word = left _ g; text = refl }
-named-other t (Declaration.error nm ins) h y z = absurd (z refl)
+named-at t (Declaration.error nm ins) h z =
+    let d = Declaration.error nm ins in
+    record { name = nm; fields = ins; is = named-is t d h 6 nm ins Plain [] (body-is t d h ∙ last-list nm ins) (right (isWord nm) (valid t d h)); word = left _ (valid t d h); text = refl }
 
-constructor-none : (d : Declaration) → codeIn d ≡ 0x21 → canonicalText d ≡ none
+pub constructor-none : (d : Declaration) → codeIn d ≡ 0x21 → canonicalText d ≡ none
 unfolding codeIn canonicalText nameKinds
 constructor-none (Declaration.function m nm ins outs) z = absurd (omega arith)
 constructor-none (Declaration.constructor m ins) z = refl
@@ -278,7 +274,7 @@ module _ (n : ℕ) (a b : List ℕ) (d c : Declaration) (i : Named n a d) (j : N
 
 module _ (a b : List ℕ) where
   pub two-long : Two a b → (8 ≤ length a) × (8 ≤ length b)
-  two-long p = omega (arith, long a _ (p .one), body-long (p .declaration), long b _ (p .other), body-long (p .declaration₁))
+  two-long p = (record-long a _ (p .one), record-long b _ (p .other))
 
   module _ (k l : ℕ) (e : k ≡ leValue (take 2 (drop 4 a))) (f : l ≡ leValue (take 2 (drop 4 b))) where
     one-is : (p : Two a b) → k ≡ codeIn (p .declaration)
@@ -303,28 +299,15 @@ module _ (a b : List ℕ) where
           let c : codeIn (p .declaration) ≡ 0x21 = sym (one-is p) ∙ z in
           sym (repeats-same _ _ .1 (word-by (p .declaration) ∙ ap wordBy (codes p) ∙ sym (word-by (p .declaration₁)), constructor-none (p .declaration) c ∙ sym (constructor-none (p .declaration₁) (sym (codes p) ∙ c))))
 
-      module _ (z : k ≡ 0x23) (p : Two a b) where
-        error-one : Named 6 a (p .declaration)
-        error-one = named-error a (p .declaration) (p .one) (sym (one-is p) ∙ z)
+      module _ (y : k ≡ 0x21 → ⊥) (at : ℕ) (z : at ≡ nameAt k) where
+        one-named : (p : Two a b) → Named at a (p .declaration)
+        one-named p = rw (z, one-is p) (named-at a (p .declaration) (p .one) (λ q. y (one-is p ∙ q)))
 
-        error-other : Named 6 b (p .declaration₁)
-        error-other = named-error b (p .declaration₁) (p .other) (sym (other-is p) ∙ sym g ∙ z)
+        other-named : (p : Two a b) → Named at b (p .declaration₁)
+        other-named p = rw (z, g, other-is p) (named-at b (p .declaration₁) (p .other) (λ q. y (g ∙ other-is p ∙ q)))
 
-      pub errors-ask : k ≡ 0x23 → Two a b → TwoNamed (take (length a - 6) (drop 6 a)) (take (length b - 6) (drop 6 b))
-      errors-ask z p = two-named 6 a b _ _ (error-one z p) (error-other z p)
+        pub pair-asks : Two a b → TwoNamed (take (length a - at) (drop at a)) (take (length b - at) (drop at b))
+        pair-asks p = two-named at a b _ _ (one-named p) (other-named p)
 
-      pub errors-then : k ≡ 0x23 → (r : Bool) → NamedSame (take (length a - 6) (drop 6 a)) (take (length b - 6) (drop 6 b)) r → Repeats a b r
-      errors-then z r w p = named-repeats 6 a b _ _ (error-one z p) (error-other z p) (codes p) r w
-
-      module _ (y : k ≡ 0x21 → ⊥) (z : k ≡ 0x23 → ⊥) (p : Two a b) where
-        other-one : Named 8 a (p .declaration)
-        other-one = named-other a (p .declaration) (p .one) (λ q. y (one-is p ∙ q)) (λ q. z (one-is p ∙ q))
-
-        other-other : Named 8 b (p .declaration₁)
-        other-other = named-other b (p .declaration₁) (p .other) (λ q. y (g ∙ other-is p ∙ q)) (λ q. z (g ∙ other-is p ∙ q))
-
-      pub others-ask : (k ≡ 0x21 → ⊥) → (k ≡ 0x23 → ⊥) → Two a b → TwoNamed (take (length a - 8) (drop 8 a)) (take (length b - 8) (drop 8 b))
-      others-ask y z p = two-named 8 a b _ _ (other-one y z p) (other-other y z p)
-
-      pub others-then : (k ≡ 0x21 → ⊥) → (k ≡ 0x23 → ⊥) → (r : Bool) → NamedSame (take (length a - 8) (drop 8 a)) (take (length b - 8) (drop 8 b)) r → Repeats a b r
-      others-then y z r w p = named-repeats 8 a b _ _ (other-one y z p) (other-other y z p) (codes p) r w
+        pub pair-then : (r : Bool) → NamedSame (take (length a - at) (drop at a)) (take (length b - at) (drop at b)) r → Repeats a b r
+        pair-then r w p = named-repeats at a b _ _ (one-named p) (other-named p) (codes p) r w

@@ -5,8 +5,8 @@ ghost use mathlib.Core.Path.{_≡_};
 ghost use Prim.Native.Nat.{_≤_, _<_};
 ghost use lib.Dec.{eqb};
 ghost use lib.ListN.{length, take};
-ghost use Rattle.repeat.specs.Pairs.{TwoKinds, KindsSame, TwoLists, ListsSame, TwoNamed, NamedSame, Two, Repeats};
-ghost use Rattle.repeat.specs.Prints.{mixed, print, any, OneRecord, PrintIs};
+ghost use Rattle.repeat.specs.Pairs.{TwoKinds, KindsSame, TwoLists, ListsSame, TwoNamed, NamedSame, nameAt, Two, Repeats};
+ghost use Rattle.repeat.specs.Prints.{mixed, print, any, OneRecord, TextRoom, TextWrote, PrintIs};
 
 // A record begins with its length in four bytes and its kind in two.
 const KIND: usize = 4;
@@ -85,6 +85,16 @@ fn named(a: &[u8], b: &[u8]) -> bool
     false
 }
 
+// Where a record that says a name has the record of the name, by its kind.
+fn name_at(k: usize) -> usize
+    ensures { λ r. ⌜ (r ≡ nameAt k) × (r ≤ 8) ⌝ }
+{
+    match k {
+        ERROR => HEAD,
+        _ => FRONT,
+    }
+}
+
 // "same keyword and same canonical text (or a second constructor)"
 pub fn repeats(a: &[u8], b: &[u8]) -> bool
     requires { ⌜ Two (now a) (now b) ⌝ }
@@ -94,8 +104,10 @@ pub fn repeats(a: &[u8], b: &[u8]) -> bool
     if k == layout::get2(b, KIND) {
         return match k {
             CONSTRUCTOR => true,
-            ERROR => named(&a[HEAD..], &b[HEAD..]),
-            _ => named(&a[FRONT..], &b[FRONT..]),
+            _ => {
+                let at = name_at(k);
+                named(&a[at..], &b[at..])
+            }
         };
     }
     false
@@ -142,8 +154,21 @@ pub fn print(t: &[u8]) -> u32
     h as u32
 }
 
-// The fingerprint of a declaration's canonical text; 0 for a constructor, and where the text is longer than the scratch.
-pub fn fingerprint(record: &[u8], scratch: &mut [u8]) -> u32
+// Writes the canonical text of a declaration whose name's record stands at a place, and answers its length: the record is not checked again, and
+// no text is twice as long as its record.
+fn write_text(record: &[u8], at: usize, scratch: &mut [u8]) -> usize
+    requires { ⌜ TextRoom (now «record») at (now scratch) ⌝ }
+    ensures { λ r. ⌜ TextWrote (now («record» .entry)) at (now (scratch .entry)) (now (scratch .exit)) r ⌝ }
+{
+    let t = &record[at..];
+    let n = layout::get4(t, 0);
+    let s = &t[n..];
+    let m = layout::get4(s, 0);
+    abi::write_line(t, HEAD, n, n + HEAD, n + m, scratch)
+}
+
+// The same where the scratch may be too short.
+fn print_checked(record: &[u8], scratch: &mut [u8]) -> u32
     requires { ⌜ OneRecord (now «record») ⌝ }
     ensures { λ r. ⌜ PrintIs (now («record» .entry)) (now (scratch .entry)) (now (scratch .exit)) r ⌝ }
 {
@@ -152,6 +177,22 @@ pub fn fingerprint(record: &[u8], scratch: &mut [u8]) -> u32
         Answer::Accepted { length } => print(&scratch[..length]),
         Answer::Refused { refusal, position } => 0,
     }
+}
+
+// The fingerprint of a declaration's canonical text; 0 for a constructor, and where the text is longer than the scratch.
+pub fn fingerprint(record: &[u8], scratch: &mut [u8]) -> u32
+    requires { ⌜ OneRecord (now «record») ⌝ }
+    ensures { λ r. ⌜ PrintIs (now («record» .entry)) (now (scratch .entry)) (now (scratch .exit)) r ⌝ }
+{
+    let k = layout::get2(record, KIND);
+    if k == CONSTRUCTOR {
+        return 0;
+    }
+    if scratch.len() / 2 < record.len() {
+        return print_checked(record, scratch);
+    }
+    let n = write_text(record, name_at(k), scratch);
+    print(&scratch[..n])
 }
 
 // Whether a fingerprint is among the first n: no early exit, so that several are looked at in one step.
