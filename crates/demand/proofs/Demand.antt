@@ -42,7 +42,7 @@ accepted-not e = let z : _≡_ {A = ℕ} 0 1 = cc in omega arith
 
 -- a run that accepted wrote what there was to write; and one that was lent enough accepted
 module _ (o : Output) (u : List ℕ) (e : o ≡ writes u) (room left : List ℕ) (r : Answer) (says : said r ≡ outcome (length room) o) (leaves : left ≡ after room o) where
-  ran : (n : ℕ) → said r ≡ accepted n → (n ≡ length u) × (take n left ≡ u)
+  pub ran : (n : ℕ) → said r ≡ accepted n → (n ≡ length u) × (take n left ≡ u)
   unfolding outcome after
   ran n f = go (ltb (length room) (length u)) refl (sym f ∙ rw e at says) (rw e at leaves)
     where
@@ -53,7 +53,7 @@ module _ (o : Output) (u : List ℕ) (e : o ≡ writes u) (room left : List ℕ)
           let there : left ≡ u ++ drop (length u) room = rw (after, h) at l in
           (long, rw (long, there) (take-at u (drop (length u) room) (length u) refl))
 
-  enough : length u ≤ length room → said r ≡ accepted (length u)
+  pub enough : length u ≤ length room → said r ≡ accepted (length u)
   unfolding outcome
   enough h = rw (e, outcome, le-ltb (length room) (length u) h) at says
 

@@ -1,7 +1,8 @@
 -- Runs of the calls: what a call was lent, what it answered and what it left, in the form that its contract ensures; and what demand 3 and the
--- orders 3 and 4 say of them.
+-- orders 3, 4 and 5 say of them.
 -- Assumes nothing.
 use mathlib.Core.Path.{_≡_}
+use mathlib.Core.Bool.{true, false}
 use mathlib.Core.List.{List, [], _∷_, _++_}
 use mathlib.Core.Option.{some}
 use Prim.Native.Nat.{ℕ, _≤_}
@@ -17,6 +18,7 @@ use Rattle.model.specs.Reading.{keywordText}
 use Rattle.model.specs.Record.{decode, decodeLone}
 use Rattle.model.specs.Line.{keywordIn}
 use Rattle.model.specs.Answer.{accepted, said, outcome, after, handed, refusalNumber}
+use Rattle.model.specs.Sheet.{isBlankLine, linesOf, sheetOutput}
 use Rattle.model.specs.Calls.{readOutput, kindOutput, canonicalOutput, kindTextOutput, nameOutput, AcceptedAs}
 use Rattle.model.specs.Full.{fullOutput}
 
@@ -29,6 +31,12 @@ pub record ReadRun (c : Call) (text room left : List ℕ) (r : Answer) : Type 0 
 pub record KindRun (text room left : List ℕ) (r : Answer) : Type 0 where
   pub says : said r ≡ outcome (length room) (kindOutput text)
   pub leaves : left ≡ after room (kindOutput text)
+
+-- the sheet call on a text; the number that it was lent is left as `line`
+pub record SheetRun (text room left : List ℕ) (line : ℕ) (r : Answer) : Type 0 where
+  pub says : said r ≡ outcome (length room) (sheetOutput text .output)
+  pub leaves : left ≡ after room (sheetOutput text .output)
+  pub lines : line ≡ sheetOutput text .line
 
 -- the canonical call on a record
 pub record CanonicalRun (b room left : List ℕ) (r : Answer) : Type 0 where
@@ -104,3 +112,12 @@ pub record KindReadBack (f : Field) (text left : List ℕ) (r : Answer) : Type 0
   pub bare : tree ≡ fieldOf (kindOf f)
   pub same : kindOf tree ≡ kindOf f
   pub again : (room₁ left₁ : List ℕ) (r₁ : Answer) → length text ≤ length room₁ → KindTextRun (take n left) room₁ left₁ r₁ → (said r₁ ≡ accepted (length text)) × (take (length text) left₁ ≡ text)
+
+-- Order 5: "An accepted sheet equals its lines read singly.": bytes that are records, one behind the other, each of which the general call writes of a
+-- line, whenever it is lent enough; of blank lines there is none
+pub data ReadSingly : List (List ℕ) → List ℕ → Type 0 where
+  no-line : ReadSingly [] []
+  blank-line : {l : List ℕ} {ls : List (List ℕ)} {u : List ℕ} → isBlankLine l ≡ true → ReadSingly ls u → ReadSingly (l ∷ ls) u
+  one-line : {l b : List ℕ} {ls : List (List ℕ)} {u : List ℕ} → isBlankLine l ≡ false
+      → ((room left : List ℕ) (r : Answer) → length b ≤ length room → ReadRun call.General l room left r → (said r ≡ accepted (length b)) × (take (length b) left ≡ b))
+      → ReadSingly ls u → ReadSingly (l ∷ ls) (b ++ u)

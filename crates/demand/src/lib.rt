@@ -1,8 +1,8 @@
-// The calls that demand 3, order 3 and order 4 speak of, each with its contract in the form in which the theorems of proofs/Demand.antt take it: that it has
-// that form is what is proved here.
+// The calls that demand 3 and the orders 3, 4 and 5 speak of, each with its contract in the form in which the theorems of proofs take it: that it has that
+// form is what is proved here.
 use model::Answer;
 use model::Call;
-ghost use Rattle.demand.specs.Runs.{ReadRun, KindRun, CanonicalRun, FullRun, KindTextRun, NameRun};
+ghost use Rattle.demand.specs.Runs.{ReadRun, KindRun, SheetRun, CanonicalRun, FullRun, KindTextRun, NameRun};
 
 pub fn parse_declaration(text: &[u8], record: &mut [u8]) -> Answer
     ensures { λ r. ⌜ ReadRun Call.General (now (text .entry)) (now («record» .entry)) (now («record» .exit)) r ⌝ }
@@ -38,6 +38,12 @@ pub fn parse_kind(text: &[u8], record: &mut [u8]) -> Answer
     ensures { λ r. ⌜ KindRun (now (text .entry)) (now («record» .entry)) (now («record» .exit)) r ⌝ }
 {
     kind_call::parse_kind(text, record)
+}
+
+pub fn parse_sheet(text: &[u8], record: &mut [u8], line: &mut usize) -> Answer
+    ensures { λ r. ⌜ SheetRun (now (text .entry)) (now («record» .entry)) (now («record» .exit)) (now (line .exit)) r ⌝ }
+{
+    sheet::parse_sheet(text, record, line)
 }
 
 pub fn canonical(record: &[u8], text: &mut [u8]) -> Answer
