@@ -27,15 +27,25 @@ def line(text):
     return f"ok {len(text)} {text}"
 
 
+def lined(number, line, position=0):
+    """A refusal of the sheet call."""
+    return f"{no(number, position)} line {line}"
+
+
 class As:
     """The record that the Rust writes of a text."""
 
     def __init__(self, text, call="general"):
-        self.asked = f"{call} {text.encode().hex()}"
+        self.asked = [f"{call} {text.encode().hex()}"]
 
-    def part(self, record):
+    def due(self, record):
         """What of that record is due."""
         return record
+
+    def printed(self, *records):
+        """What is printed, by the Rust's records of what it was asked."""
+        due = self.due(*records)
+        return f"ok {len(due)} {due.hex()}"
 
 
 class Kind(As):
@@ -46,11 +56,25 @@ class Kind(As):
     def __init__(self, text):
         super().__init__(f"error e({text})", "error")
 
-    def part(self, record):
+    def due(self, record):
         field = record[self.FRONT:]
         if int.from_bytes(field[:4], "little") != len(field):
             sys.exit(f"the Rust does not read one field: {self.asked}")
         return field
+
+
+class Sheet(As):
+    """The sheet record, kind hex 30, of the Rust's records of some lines."""
+
+    def __init__(self, *lines):
+        self.asked = [f"general {line.encode().hex()}" for line in lines]
+
+    def due(self, *records):
+        body = b"".join(records)
+        return (6 + len(body)).to_bytes(4, "little") + b"\x30\0" + body
+
+    def printed(self, *records):
+        return f"{super().printed(*records)} line 0"
 
 
 # Order 2: visibility words.
@@ -200,7 +224,43 @@ def full_text():
         yield "full_kind", 0, text, no(15, 0)
 
 
-TABLES = (visibility, kind_tuples, full_text)
+# Order 5: sheets of many declarations.
+
+def sheets():
+    e, f = "error e()", "error f()"
+    for text, lines in (
+        ("", ()), ("\n", ()), ("\n\n", ()), ("\x85\u3000\n\u2028", ()), (" \t\r\n\v\f", ()),
+        (f"{e}\r\n{f}\r\n", (e, f)), (f"\n{e}\n \n{f}", (e, f)), (f"{e};\n{f} ;", (e, f)),
+    ):
+        yield "sheet", AMPLE, text, Sheet(*lines)
+    for lines in (
+        ("event e()", e, "function e()"), ("function f((uint))", "function f(uint)"), ("constructor(uint a)", "function f()"),
+        ("function f()", "function f(uint)", "function f(uint,uint)", "function f(int)", "function f(uint8)", "function g()"),
+        ("function f(uint)", "function f(uint[])", "function f(uint[2])", "function f(uint[3])", "function f(uint[][2])", "function f(uint[2][])"),
+        ("function f((uint,bool))", "function f((uint),bool)", "function f(uint,(bool))", "function f((uint,bool)[])", "function f(((uint,bool)))"),
+        ("event e(uint indexed a, bytes32 b)", "event e(bytes32 a, uint b) anonymous", "event e(uint a)"),
+    ):
+        yield "sheet", AMPLE, "\n".join(lines), Sheet(*lines)
+    for text, answer in (
+        (" " + e, lined(4, 1)), ("error e(\n)", lined(1, 1, 8)), (f"{e}; {f}", lined(7, 1, 11)), (f"{e}\r{f}", lined(7, 1, 10)),
+        (b" \xff", lined(9, 1, 1)), (b"error e()\n\xc3", lined(9, 2)), (b"error e()\xe3\n\x80\x80", lined(9, 1, 9)),
+        ("x\ny", lined(4, 1)), (f"{e}\n\nerror e(\nx", lined(1, 3, 8)),
+        (f"{e}\n{e}\nx", lined(4, 3)), (f"{e}\n\n\nerror e( )", lined(23, 4)), (f"{e}\n{f}\n{f}\n{e}", lined(23, 3)),
+        ("constructor()\nconstructor(uint) payable", lined(23, 2)), ("constructor()\nevent e()\nconstructor()", lined(23, 3)),
+        ("function f((uint a))\nfunction f((uint256)) view", lined(23, 2)), ("function f((uint a, bool b)[2][])\nfunction f((uint b, bool)[2][] c)", lined(23, 2)),
+        ("function f() returns (uint)\nfunction f() external", lined(23, 2)), ("event e(uint indexed a)\nevent e(uint) anonymous", lined(23, 2)),
+        ("function f(string memory a)\nfunction f(string calldata)", lined(23, 2)),
+    ):
+        yield "sheet", AMPLE, text, answer
+    yield "sheet", 6, "", Sheet()
+    yield "sheet", 5, "", lined(20, 0)
+    yield "sheet", 44, f"{e}\n{f}", Sheet(e, f)
+    yield "sheet", 43, f"{e}\n{f}", lined(20, 0)
+    yield "sheet", 0, f"{e}\n{e}", lined(23, 2)
+    yield "sheet", 0, "x", lined(4, 1)
+
+
+TABLES = (visibility, kind_tuples, full_text, sheets)
 
 
 def as_bytes(text):
@@ -216,18 +276,20 @@ def escaped(text):
 
 def answers(rows):
     """What is to be printed behind each row; one run of the oracle answers for all records."""
-    asked = [said.asked for *_, said in rows if isinstance(said, As)]
+    asked = [text for *_, said in rows if isinstance(said, As) for text in said.asked]
     done = subprocess.run([os.environ["ORACLE"]], input="".join(a + "\n" for a in asked), capture_output=True, text=True, check=True)
     replies = iter(done.stdout.splitlines())
     for *_, said in rows:
         if not isinstance(said, As):
             yield said
             continue
-        outcome, record, *_ = next(replies).split(" ")
-        if outcome != "ok":
-            sys.exit(f"the Rust refuses what is said to be read: {said.asked}")
-        due = said.part(bytes.fromhex(record))
-        yield f"ok {len(due)} {due.hex()}"
+        records = []
+        for text in said.asked:
+            outcome, record, *_ = next(replies).split(" ")
+            if outcome != "ok":
+                sys.exit(f"the Rust refuses what is said to be read: {text}")
+            records.append(bytes.fromhex(record))
+        yield said.printed(*records)
 
 
 def main():

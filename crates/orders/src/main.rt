@@ -1,5 +1,5 @@
 // The tables of document 02. Standard input has a row a line: a call, the room that it is lent (`-`: ample), and its input, in which `\` and two hex
-// digits stand for a byte. Each row is printed with its answer; the file stdout has what the tables say.
+// digits stand for a byte. Each row is printed with its answer, a sheet's with the line; the file stdout has what the tables say.
 // A call on records is asked about the record that is read of the input, by the kind call for kind_text and by the general call else; full_kind is the
 // full text call asked about a field's record.
 use libc::STDIN_FILENO;
@@ -16,6 +16,9 @@ const AMPLE: usize = 81920;
 
 // One byte more than the longest text.
 const TEXT: usize = 4097;
+
+// What a lent line holds beforehand: no text here has so many lines.
+const UNTOLD: usize = 99999;
 
 // The room that a field says, and ample where it says none.
 fn room_of(field: &[u8]) -> usize
@@ -82,11 +85,12 @@ fn unescape(input: &[u8], out: &mut [u8]) -> usize
     n
 }
 
-// What a call does: it reads a text, writes of a record, or tells the message of a text.
+// What a call does: it reads a text, writes of a record, tells the message of a text, or reads a sheet.
 enum Does {
     Reads,
     Writes,
     Tells,
+    Sheets,
     Nothing,
 }
 
@@ -119,6 +123,9 @@ fn what_of(call: &[u8]) -> Does {
     }
     if text::equal(call, b"message") {
         return Does::Tells;
+    }
+    if text::equal(call, b"sheet") {
+        return Does::Sheets;
     }
     Does::Nothing
 }
@@ -179,6 +186,12 @@ fn tell_in(room: usize, text: &[u8], out: &mut [u8]) -> Answer
     message::message(Call::General, text, &mut out[..room])
 }
 
+fn sheet_in(room: usize, text: &[u8], out: &mut [u8], line: &mut usize) -> Answer
+    requires { ⌜ room ≤ length (now out) ⌝ }
+{
+    sheet::parse_sheet(text, &mut out[..room], line)
+}
+
 fn show_read(room: usize, call: &[u8], text: &[u8])
     requires { ⌜ room ≤ 81920 ⌝ }
 {
@@ -225,6 +238,17 @@ fn show_message(room: usize, text: &[u8])
     tables::print_text(answer, &buffer);
 }
 
+fn show_sheet(room: usize, text: &[u8])
+    requires { ⌜ room ≤ 81920 ⌝ }
+{
+    let mut buffer = [FILL; AMPLE];
+    let mut line = UNTOLD;
+    let answer = sheet_in(room, text, &mut buffer, &mut line);
+    tables::print_record(answer, &buffer);
+    tables::print(b" line ");
+    tables::print_number(line);
+}
+
 fn show(room: usize, call: &[u8], text: &[u8])
     requires { ⌜ room ≤ 81920 ⌝ }
 {
@@ -233,6 +257,7 @@ fn show(room: usize, call: &[u8], text: &[u8])
         Does::Reads => show_read(room, call, text),
         Does::Writes => show_line_of(room, call, text),
         Does::Tells => show_message(room, text),
+        Does::Sheets => show_sheet(room, text),
         Does::Nothing => tables::print(b" no such call"),
     }
 }
