@@ -6,15 +6,18 @@
  * are new, and the later ones are as they were. Otherwise it returns the number of a refusal, *value is its position, and
  * the whole buffer is as it was.
  *
- * Positions are byte offsets from 0 in the text that was lent. Nothing is terminated by a zero, neither what is lent nor
- * what is written: texts, records, lines, names and messages are bytes with a length, and a zero is a byte like others.
+ * Positions are byte offsets from 0 in the text that was lent, or, of a sheet, in one of its lines. Nothing is terminated by
+ * a zero, neither what is lent nor what is written: texts, records, lines, names and messages are bytes with a length, and a
+ * zero is a byte like others.
  *
  * The caller sees to it that
  *   - each pointer may be read, or written, over its whole length,
- *   - what is lent to one call does not overlap: neither input and buffer, nor either of them and *value,
+ *   - what is lent to one call does not overlap: neither input and buffer, nor either of them and a number that the call
+ *     sets, nor two such numbers,
  *   - no pointer is null, not even one whose length is 0.
  * Beyond that, any bytes and any lengths have an answer. No call allocates or keeps anything, so threads may call at the
- * same time, each with buffers of its own. As built on x86-64, no call takes 64 KB of stack in all.
+ * same time, each with buffers of its own. As built on x86-64, geusomin_parse_sheet takes less than 160 KB of stack in all,
+ * and every other call less than 64 KB.
  */
 #ifndef GEUSOMIN_H
 #define GEUSOMIN_H
@@ -26,7 +29,7 @@
 extern "C" {
 #endif
 
-#define GEUSOMIN_VERSION "0.4.0"
+#define GEUSOMIN_VERSION "0.5.0"
 
 /* A text of more than GEUSOMIN_TEXT_MAX bytes is refused with 8. A record of more than GEUSOMIN_RECORD_MAX bytes is not
    well formed, and a reading call writes at most 10 bytes for each byte of its text, so a buffer of GEUSOMIN_RECORD_MAX
@@ -40,6 +43,14 @@ extern "C" {
 
 /* Room enough for every message. */
 #define GEUSOMIN_MESSAGE_MAX 256
+
+/* A sheet text of more than GEUSOMIN_SHEET_TEXT_MAX bytes is refused with 21, and one of more than
+   GEUSOMIN_DECLARATIONS_MAX declarations with 22. A sheet record has at most 10 bytes for each byte of its text and 6 more,
+   so a buffer of GEUSOMIN_SHEET_MAX bytes is room enough for the record of every sheet. GEUSOMIN_TEXT_MAX and
+   GEUSOMIN_RECORD_MAX bind each of its declarations, not the sheet. */
+#define GEUSOMIN_SHEET_TEXT_MAX 65536
+#define GEUSOMIN_SHEET_MAX 655366
+#define GEUSOMIN_DECLARATIONS_MAX 512
 
 /* The refusals. "Wanted" is what the reader looked for where the position says. Each call below names those that it can
    give, and gives no other. */
@@ -63,10 +74,15 @@ enum geusomin_refusal {
     GEUSOMIN_NOT_WELL_FORMED = 15,     /* record not well formed, or of the wrong sort: a field where a declaration is due */
     GEUSOMIN_WRONG_SORT = 16,          /* canonical or name of a constructor, or signature of anything but a function */
     /* of lent buffers */
-    GEUSOMIN_NO_ROOM = 20              /* too short for the whole output, position 0 */
+    GEUSOMIN_NO_ROOM = 20,             /* too short for the whole output, position 0 */
+    /* of sheets, at position 0 */
+    GEUSOMIN_SHEET_TOO_LONG = 21,      /* text over 65,536 bytes, line 0 */
+    GEUSOMIN_TOO_MANY_DECLARATIONS = 22, /* more than 512 declarations, at the line of the 513th */
+    GEUSOMIN_REPEATED = 23             /* keyword and canonical text of an earlier line, or a second constructor */
 };
 
-/* What a refusal's number says, in the words of docs/01-scope.md; NULL for a number that is none. */
+/* What a refusal's number says, in the words of docs/01-scope.md and docs/02-change-requests.md; NULL for a number that is
+   none. */
 static inline const char *geusomin_refusal_text(uint32_t number)
 {
     switch (number) {
@@ -102,6 +118,12 @@ static inline const char *geusomin_refusal_text(uint32_t number)
         return "canonical or name of a constructor, or signature of anything but a function";
     case GEUSOMIN_NO_ROOM:
         return "too short for the whole output";
+    case GEUSOMIN_SHEET_TOO_LONG:
+        return "text over 65,536 bytes";
+    case GEUSOMIN_TOO_MANY_DECLARATIONS:
+        return "more than 512 declarations";
+    case GEUSOMIN_REPEATED:
+        return "same keyword and same canonical text (or a second constructor) as an earlier line";
     default:
         return NULL;
     }
@@ -110,8 +132,8 @@ static inline const char *geusomin_refusal_text(uint32_t number)
 /*
  * Records. A record is its length, 4 bytes that count the whole record; its record kind, 2 bytes; its body. Numbers are
  * little-endian. The layout of every body, and when a record is well formed, stand in docs/01-scope.md, section "One
- * call, from text to line", paragraph "Record"; order 1 of docs/02-change-requests.md adds the marks 2 and 3. Three
- * numbers of 2 bytes each tell what else a text said:
+ * call, from text to line", paragraph "Record"; of docs/02-change-requests.md order 1 adds the marks 2 and 3, and order 5 the
+ * sheet. Three numbers of 2 bytes each tell what else a text said:
  *
  *   mark        of a field: 1 where `indexed` stands behind its kind, in an event's own list; 2 where `calldata` and 3 where
  *               `memory` stands there, in a function's or a constructor's own lists, at an array, a tuple, `bytes` or
@@ -132,7 +154,8 @@ enum geusomin_record_kind {
     GEUSOMIN_FUNCTION = 0x20,
     GEUSOMIN_CONSTRUCTOR = 0x21,
     GEUSOMIN_EVENT = 0x22,
-    GEUSOMIN_ERROR = 0x23
+    GEUSOMIN_ERROR = 0x23,
+    GEUSOMIN_SHEET = 0x30
 };
 
 /*
@@ -157,6 +180,22 @@ uint32_t geusomin_parse_constructor(const uint8_t *text, size_t text_len, uint8_
    at the first such `(`, and with 13 whatever else is wrong with it. The text that geusomin_kind_text writes of a field is
    read as the same kind if it has at most GEUSOMIN_TEXT_MAX bytes. Refusals: 8 to 13, 20. */
 uint32_t geusomin_parse_kind(const uint8_t *text, size_t text_len, uint8_t *record, size_t room, size_t *value);
+
+/*
+ * The sheet call takes a text of many declarations, a line each, and writes their records in one.
+ */
+
+/* Lines are parted by line feeds, bytes 10, and by nothing else; n of them part n + 1 lines. A line of blanks only, the
+   empty one among them, is passed over, however long. Every other one is read by the general call as it stands: a carriage
+   return at its end is a blank, and blanks before a declaration are refused. A text without declarations, that of no bytes
+   among them, is a sheet too. The sheet record has record kind GEUSOMIN_SHEET; its body is the declarations' records in
+   order, each as geusomin_parse_declaration writes it.
+   On acceptance *line is 0. Otherwise it is the refusal's line, counted from 1, and *value the position within that line;
+   20 and 21 have line 0. 21 comes before all else; of several refused lines the first counts; where every line is read,
+   22, 23 and 20 come in this order.
+   Refusals: 1 to 10, 20 to 23. */
+uint32_t geusomin_parse_sheet(const uint8_t *text, size_t text_len, uint8_t *record, size_t room, size_t *value,
+                              size_t *line);
 
 /*
  * The calls on records take bytes of any origin, which are checked first, and write a text.
