@@ -50,6 +50,9 @@ static const struct {
 
 #define CALLS (sizeof calls / sizeof *calls)
 
+/* And the one that tells a line, geusomin_parse_sheet. */
+static const char sheet_call[] = "sheet";
+
 struct bytes {
     const uint8_t *at;
     size_t length;
@@ -181,6 +184,8 @@ static void tell_summary(void)
 /* Input: the files that are named, one after the other, through a window. Its bytes from `from` to `end` are read and not
    yet handed out. A line is handed out where it stands and stays there until the next is asked for. Of a line longer than
    the window the front is handed out, and the rest is skipped. */
+static uint8_t window[1 << 20];
+
 static struct {
     char **files;     /* still to be read, up to a null pointer */
     const char *name; /* of what is read now */
@@ -189,8 +194,9 @@ static struct {
     uint64_t line;        /* which line of its file was handed out, counted from 1 */
     size_t from, end;
     bool cut; /* what is left of a cut line comes first */
-    uint8_t bytes[1 << 20];
-} input;
+    size_t size;
+    uint8_t *bytes;
+} input = {.size = sizeof window, .bytes = window};
 
 /* What was printed goes out first. */
 static _Noreturn void stop_reading(int error)
@@ -237,7 +243,7 @@ static bool refill(void)
     memmove(input.bytes, input.bytes + input.from, input.end);
     input.from = 0;
     do
-        got = read(input.file, input.bytes + input.end, sizeof input.bytes - input.end);
+        got = read(input.file, input.bytes + input.end, input.size - input.end);
     while (got < 0 && errno == EINTR);
     if (got < 0)
         stop_reading(errno);
@@ -271,7 +277,7 @@ static bool next_of_file(struct bytes *line)
     for (;;) {
         held = input.end - input.from;
         feed = memchr(input.bytes + input.from + searched, '\n', held - searched);
-        input.cut = feed == NULL && held == sizeof input.bytes;
+        input.cut = feed == NULL && held == input.size;
         searched = held;
         if (feed != NULL || input.cut || !refill())
             break;
@@ -398,9 +404,83 @@ static enum status print_deposits(char **files, struct options options)
     return options.check && tally.by_number[0] < tally.lines ? REFUSED : ANSWERED;
 }
 
+/* Sheets. */
+
+#define HEAD 6
+
+static void print_lined_refusal(uint32_t number, size_t line, size_t position)
+{
+    print_text("no ");
+    print_number(number);
+    print_text(" ");
+    print_number(line);
+    print_text(" ");
+    print_number(position);
+}
+
+/* A file whole; of one over the limit as much as shows that it is over it. */
+static struct bytes sheet_of(char **file)
+{
+    input.files = file;
+    open_next();
+    while (input.end <= GEUSOMIN_SHEET_TEXT_MAX && refill())
+        continue;
+    return (struct bytes){input.bytes, input.end <= GEUSOMIN_SHEET_TEXT_MAX ? input.end : GEUSOMIN_SHEET_TEXT_MAX + 1};
+}
+
+/* The line of that number, counted from 1, in a text that has so many. */
+static struct bytes line_of(struct bytes text, size_t number)
+{
+    const uint8_t *end = text.at + text.length, *feed = memchr(text.at, '\n', text.length);
+
+    for (; number > 1; number--) {
+        text.at = feed + 1;
+        feed = memchr(text.at, '\n', (size_t)(end - text.at));
+    }
+    return (struct bytes){text.at, (size_t)((feed != NULL ? feed : end) - text.at)};
+}
+
+static size_t length_of(const uint8_t *record)
+{
+    return (size_t)record[0] | (size_t)record[1] << 8 | (size_t)record[2] << 16 | (size_t)record[3] << 24;
+}
+
+static size_t count_of(struct bytes sheet)
+{
+    size_t count = 0;
+
+    for (size_t at = HEAD; at < sheet.length; at += length_of(sheet.at + at))
+        count++;
+    return count;
+}
+
+static enum status print_sheet(char **file, struct options options)
+{
+    static uint8_t record[GEUSOMIN_SHEET_MAX];
+    struct bytes text = sheet_of(file);
+    size_t value, line;
+    uint32_t refusal = geusomin_parse_sheet(text.at, text.length, record, sizeof record, &value, &line);
+
+    if (refusal == 0) {
+        print_text("ok ");
+        print_number(count_of((struct bytes){record, value}));
+        print_text(" ");
+        print_number(value);
+    } else {
+        print_lined_refusal(refusal, line, value);
+        if (line > 0)
+            print_message(line_of(text, line));
+    }
+    print_text("\n");
+    close_output();
+    return options.check && refusal != 0 ? REFUSED : ANSWERED;
+}
+
 /* Replay. The lent buffer is filled beforehand and reaches past the room that is lent. */
 
+#define REPLAY_LINE_MAX ((size_t)1 << 23) /* longer than a line with two of the longest sheet records in hex */
 #define ROOM_MAX 131072
+#define SHEET_ROOM_MAX 2097152
 #define PAST_ROOM 64
 #define FILL 0xA5
 
@@ -440,19 +520,19 @@ static call *call_named(struct bytes name)
     stop_replay("no call has that name");
 }
 
-static size_t room_of(struct bytes field)
+static size_t room_of(struct bytes field, size_t most)
 {
     size_t room = 0;
 
     if (is(field, "-"))
-        return ROOM_MAX;
+        return most;
     if (field.length == 0)
         stop_replay("no room is given");
     for (size_t i = 0; i < field.length; i++) {
         if (field.at[i] < '0' || '9' < field.at[i])
             stop_replay("the room is no number");
         room = 10 * room + (field.at[i] - (size_t)'0');
-        if (room > ROOM_MAX)
+        if (room > most)
             stop_replay("the room is too large");
     }
     return room;
@@ -514,22 +594,30 @@ static bool is_kept(const uint8_t *bytes, size_t length)
 
 static void replay_line(struct bytes line)
 {
-    call *run = call_named(take_field(&line));
-    struct bytes hex = take_field(&line), in;
-    size_t room = room_of(line), size = room + PAST_ROOM, value = 0, written;
+    struct bytes name = take_field(&line), hex = take_field(&line), in;
+    bool is_sheet = is(name, sheet_call);
+    call *run = is_sheet ? NULL : call_named(name);
+    size_t room = room_of(line, is_sheet ? SHEET_ROOM_MAX : ROOM_MAX), size = room + PAST_ROOM, value = 0, told = 1, written;
     uint8_t *out;
     uint32_t refusal;
 
     in = decoded(hex);
     out = allocate(size);
     memset(out, FILL, size);
-    refusal = run(in.at, in.length, out, room, &value);
+    if (is_sheet)
+        refusal = geusomin_parse_sheet(in.at, in.length, out, room, &value, &told);
+    else
+        refusal = run(in.at, in.length, out, room, &value);
     written = refusal == 0 ? value : 0;
     if (written > room)
         stop(FAILED, "the library", "a length is over the room");
+    if (is_sheet && refusal == 0 && told != 0)
+        stop(FAILED, "the library", "an accepted sheet has a line");
     if (refusal == 0) {
         print_text("ok ");
         print_hex((struct bytes){out, written});
+    } else if (is_sheet) {
+        print_lined_refusal(refusal, told, value);
     } else {
         print_refusal(refusal, value);
     }
@@ -543,6 +631,8 @@ static enum status replay(void)
     struct bytes line;
 
     input.files = standard_input;
+    input.size = REPLAY_LINE_MAX;
+    input.bytes = allocate(input.size);
     while (next_line(&line)) {
         if (input.cut)
             stop_replay("the line is too long");
@@ -645,6 +735,7 @@ static enum status bench(char **file)
 
 static const char usage[] =
     "usage: geusomin [--check] [--full] [--quiet] [FILE..]\n"
+    "       geusomin sheet [--check] [FILE]\n"
     "       geusomin replay\n"
     "       geusomin bench FILE\n"
     "       geusomin --help | --version\n";
@@ -658,23 +749,26 @@ static const char about[] =
     "On standard error it tells how many lines there were, how many were accepted, how many were refused with each number,\n"
     "and how many it answered a second; a terminal is told once a second how many there were so far.\n"
     "\n"
-    "  --check      exit with status 3 where a line was refused\n"
+    "  --check      exit with status 3 where a line, or the sheet, was refused\n"
     "  --full       print the full line, names and mark words included, in place of the canonical one; a constructor's too\n"
     "  --quiet      tell nothing on standard error but failures\n"
     "  --           what follows are files\n"
     "  --help       print this\n"
     "  --version    print the version\n"
-    "  replay       read lines `CALL HEX ROOM` from standard input and print `ok HEX` or `no NUMBER POSITION` for each. HEX\n"
-    "               is in lower case, `-` for no bytes; ROOM is how many bytes the call is lent, `-` for the most, 131072\n"
+    "  sheet        read a file, or standard input, as one sheet of declarations, a line each, and print `ok COUNT LENGTH`:\n"
+    "               how many it has, its record's length; or `no NUMBER LINE POSITION`, and behind a tab the line's message\n"
+    "  replay       read lines `CALL HEX ROOM` from standard input and print `ok HEX` or `no NUMBER POSITION` for each, of\n"
+    "               a sheet `no NUMBER LINE POSITION`. HEX is in lower case, `-` for no bytes; ROOM is how many bytes the\n"
+    "               call is lent, `-` for the most, 131072, for a sheet 2097152\n"
     "  bench FILE   time the general, canonical, signature and full calls over a file of declarations\n"
     "\n"
-    "A first argument `replay` or `bench` is the command; ./bench names the file.\n"
+    "A first argument `sheet`, `replay` or `bench` is the command; ./sheet names the file.\n"
     "\n"
     "Status:\n"
     "  0 all was read and answered\n"
     "  1 the input or the output failed\n"
     "  2 an argument, or a line of replay, is malformed\n"
-    "  3 with --check: all was read and answered, and a line was refused\n"
+    "  3 with --check: all was read and answered, and a line, or the sheet, was refused\n"
     "It stops at the first failure; what it answered before is printed.\n"
     "\n"
     "Calls of replay:\n";
@@ -688,8 +782,10 @@ static enum status help(void)
         print_text(calls[i].name);
         print_text("\n");
     }
-    print_text("\nRefusals:\n");
-    for (uint32_t number = 1; number <= GEUSOMIN_NO_ROOM; number++) {
+    print_text("  ");
+    print_text(sheet_call);
+    print_text("\n\nRefusals:\n");
+    for (uint32_t number = 1; number <= GEUSOMIN_REPEATED; number++) {
         if (geusomin_refusal_text(number) != NULL) {
             print_text(number < 10 ? "   " : "  ");
             print_number(number);
@@ -716,7 +812,7 @@ static enum status misused(const char *argument, const char *why)
 }
 
 /* Options may stand before, between and behind the files, up to `--`. The files are moved to the front of the arguments. */
-static enum status read_files(char **arguments)
+static enum status read_files(char **arguments, bool is_sheet)
 {
     struct options options = {false, false, false};
     bool in_front = true; /* of `--` */
@@ -741,7 +837,12 @@ static enum status read_files(char **arguments)
             return misused(argument, "no such option");
     }
     *last = NULL;
-    return print_deposits(last > files ? files : standard_input, options);
+    if (is_sheet && options.full)
+        return misused("--full", "not for a sheet");
+    if (is_sheet && last > files + 1)
+        return misused("sheet", "takes one file");
+    files = last > files ? files : standard_input;
+    return is_sheet ? print_sheet(files, options) : print_deposits(files, options);
 }
 
 int main(int argc, char **argv)
@@ -753,5 +854,7 @@ int main(int argc, char **argv)
         return argc == 2 ? replay() : misused("replay", "takes no argument");
     if (strcmp(command, "bench") == 0)
         return argc == 3 ? bench(argv + 2) : misused("bench", "takes one file");
-    return read_files(argv + (argc > 0));
+    if (strcmp(command, "sheet") == 0)
+        return read_files(argv + 2, true);
+    return read_files(argv + (argc > 0), false);
 }
