@@ -1,10 +1,12 @@
 /*
  * The calls on memory that ends where the lent bytes end. Reads lines `CALL HEX ROOM` as `geusomin replay` does and prints
- * the same for each. Every line is run twice: input, buffer and *value first begin where their memory begins, then end
- * where it ends, and before and behind it lies memory without access. All of it runs on a stack of 64 KB. So a call that
- * touches a byte beyond what it was lent, or takes too much stack, ends the program by the signal SIGSEGV. Behind an answer
- * stands ` damaged` where the input, or a byte that the answer does not count as written, has changed, and ` differs`
- * where the second run is answered otherwise.
+ * the same for each. Every line is run twice: input, buffer, *value and *line first begin where their memory begins, then
+ * end where it ends, and before and behind it lies memory without access. All of it runs on a stack of 64 KB. So a call
+ * that touches a byte beyond what it was lent, or takes too much stack, ends the program by the signal SIGSEGV. Behind an
+ * answer stands ` damaged` where the input, or a byte that the answer does not count as written, has changed, and
+ * ` differs` where the second run is answered otherwise.
+ *
+ * `guarded STACK ROOM` runs it on a stack of so many bytes, with at most so much room.
  *
  * Calls that misbehave, by names that the library does not have, show that this is seen.
  */
@@ -20,14 +22,16 @@
 
 #include "geusomin.h"
 
-#define INPUT_MAX 65536
-#define ROOM_MAX 131072
+#define INPUT_MAX 131072
+#define ROOM_MAX 2097152
 #define VALUE_MAX 65536
-#define STACK 65536
 #define GUARD ((size_t)1 << 20)
 #define FILL 0xA5
 
 typedef uint32_t call(const uint8_t *in, size_t length, uint8_t *out, size_t room, size_t *value);
+typedef uint32_t lined_call(const uint8_t *in, size_t length, uint8_t *out, size_t room, size_t *value, size_t *line);
+
+static size_t stack_size = 65536, most_room = 131072;
 
 static _Noreturn void fail(const char *what)
 {
@@ -112,12 +116,35 @@ static uint32_t tells_places(const uint8_t *in, size_t length, uint8_t *out, siz
 
 static uint32_t takes_stack(const uint8_t *in, size_t length, uint8_t *out, size_t room, size_t *value)
 {
-    volatile uint8_t frame[STACK];
+    volatile uint8_t frame[stack_size];
 
     (void)in, (void)length, (void)out, (void)room;
     frame[0] = 0;
     *value = frame[0];
     return 0;
+}
+
+static uint32_t writes_beside_line(const uint8_t *in, size_t length, uint8_t *out, size_t room, size_t *value, size_t *line)
+{
+    (void)in, (void)length, (void)out, (void)room;
+    *value = 0;
+    ((volatile size_t *)line)[1] = 0;
+    return GEUSOMIN_REPEATED;
+}
+
+static uint32_t forgets_line(const uint8_t *in, size_t length, uint8_t *out, size_t room, size_t *value, size_t *line)
+{
+    (void)in, (void)length, (void)out, (void)room, (void)line;
+    *value = 0;
+    return 0;
+}
+
+static uint32_t tells_line_of_places(const uint8_t *in, size_t length, uint8_t *out, size_t room, size_t *value, size_t *line)
+{
+    (void)length, (void)out, (void)room;
+    *value = 0;
+    *line = (size_t)in;
+    return GEUSOMIN_REPEATED;
 }
 
 static const struct {
@@ -152,6 +179,22 @@ static const struct {
     {"takes_stack", takes_stack},
 };
 
+static const struct {
+    const char *name;
+    lined_call *run;
+} lined_calls[] = {
+    {"sheet", geusomin_parse_sheet},
+    {"writes_beside_line", writes_beside_line},
+    {"forgets_line", forgets_line},
+    {"tells_line_of_places", tells_line_of_places},
+};
+
+/* A call of either sort. */
+struct named {
+    call *run;
+    lined_call *run_lined;
+};
+
 /* Memory between guards. */
 
 struct memory {
@@ -159,7 +202,7 @@ struct memory {
     size_t size;
 };
 
-static struct memory input, output, number;
+static struct memory input, output, number, line_number;
 
 static struct memory guarded(size_t size)
 {
@@ -185,23 +228,32 @@ static bool is_filled(const uint8_t *bytes, size_t length)
 
 struct answer {
     uint32_t refusal;
-    size_t value, written;
-    bool damaged;
+    size_t value, line, written;
+    bool lined, damaged;
     uint8_t bytes[ROOM_MAX];
 };
 
 /* The memory of the buffer is filled before and after. */
-static void run(call *tried, const uint8_t *given, size_t length, size_t room, bool at_end, struct answer *answer)
+static void run(struct named tried, const uint8_t *given, size_t length, size_t room, bool at_end, struct answer *answer)
 {
     uint8_t *in = lent(input, length, at_end), *out = lent(output, room, at_end), *behind;
     size_t *value = (size_t *)(void *)lent(number, sizeof *value, at_end);
+    size_t *line = (size_t *)(void *)lent(line_number, sizeof *line, at_end);
 
     memcpy(in, given, length);
-    answer->refusal = tried(in, length, out, room, value);
+    *line = 1;
+    answer->lined = tried.run_lined != NULL;
+    if (answer->lined)
+        answer->refusal = tried.run_lined(in, length, out, room, value, line);
+    else
+        answer->refusal = tried.run(in, length, out, room, value);
     answer->value = *value;
+    answer->line = *line;
     answer->written = answer->refusal == 0 ? *value : 0;
     if (answer->written > room)
         fail("a length is over the room");
+    if (answer->lined && answer->refusal == 0 && *line != 0)
+        fail("an accepted sheet has a line");
     behind = out + answer->written;
     answer->damaged = memcmp(in, given, length) != 0 || !is_filled(output.at, (size_t)(out - output.at))
         || !is_filled(behind, (size_t)(output.at + output.size - behind));
@@ -211,12 +263,14 @@ static void run(call *tried, const uint8_t *given, size_t length, size_t room, b
 
 static bool is_same(const struct answer *a, const struct answer *b)
 {
-    return a->refusal == b->refusal && a->value == b->value && memcmp(a->bytes, b->bytes, a->written) == 0;
+    return a->refusal == b->refusal && a->value == b->value && a->line == b->line && memcmp(a->bytes, b->bytes, a->written) == 0;
 }
 
 static void print_answer(const struct answer *answer)
 {
-    if (answer->refusal != 0)
+    if (answer->refusal != 0 && answer->lined)
+        printf("no %" PRIu32 " %zu %zu", answer->refusal, answer->line, answer->value);
+    else if (answer->refusal != 0)
         printf("no %" PRIu32 " %zu", answer->refusal, answer->value);
     else
         fputs(answer->written == 0 ? "ok -" : "ok ", stdout);
@@ -228,11 +282,14 @@ static void print_answer(const struct answer *answer)
 
 /* Lines. */
 
-static call *call_named(const char *name)
+static struct named call_named(const char *name)
 {
     for (size_t i = 0; i < sizeof calls / sizeof *calls; i++)
         if (strcmp(name, calls[i].name) == 0)
-            return calls[i].run;
+            return (struct named){calls[i].run, NULL};
+    for (size_t i = 0; i < sizeof lined_calls / sizeof *lined_calls; i++)
+        if (strcmp(name, lined_calls[i].name) == 0)
+            return (struct named){NULL, lined_calls[i].run};
     fail("no such call");
 }
 
@@ -260,8 +317,8 @@ static void run_line(char *line)
     if (space == NULL)
         fail("a line is no call");
     length = decode(hex, given);
-    room = strcmp(space, "-") == 0 ? ROOM_MAX : strtoul(space, NULL, 10);
-    if (room > ROOM_MAX)
+    room = strcmp(space, "-") == 0 ? most_room : strtoul(space, NULL, 10);
+    if (room > most_room)
         fail("too much room");
     run(call_named(name), given, length, room, false, &first);
     run(call_named(name), given, length, room, true, &second);
@@ -280,17 +337,25 @@ static void *run_lines(void *unused)
     return unused;
 }
 
-int main(void)
+int main(int argc, char **argv)
 {
-    struct memory stack = guarded(STACK);
+    struct memory stack;
     pthread_attr_t attributes;
     pthread_t thread;
 
+    if (argc == 3) {
+        stack_size = strtoul(argv[1], NULL, 10);
+        most_room = strtoul(argv[2], NULL, 10);
+    }
+    if ((argc != 1 && argc != 3) || most_room > ROOM_MAX)
+        fail("usage: guarded [STACK ROOM]");
+    stack = guarded(stack_size);
     /* what was answered is out where a call ends the program */
     setvbuf(stdout, NULL, _IOLBF, 0);
     input = guarded(INPUT_MAX);
-    output = guarded(ROOM_MAX);
+    output = guarded(most_room);
     number = guarded(VALUE_MAX);
+    line_number = guarded(VALUE_MAX);
     memset(output.at, FILL, output.size);
     if (pthread_attr_init(&attributes) != 0 || pthread_attr_setstack(&attributes, stack.at, stack.size) != 0
         || pthread_create(&thread, &attributes, run_lines, NULL) != 0 || pthread_join(thread, NULL) != 0)

@@ -1,7 +1,7 @@
-"""Tests of the header: the refusals and their texts are document 01's, and each call gives the refusals that its comment names.
+"""Tests of the header: the refusals and their texts are the documents', and each call gives the refusals that its comment names.
 
 A number's words stand behind it in document 01, up to its position or the end of the sentence; 11 to 13 share theirs. A number
-that document 02 says is no longer given has none.
+that document 02 says is no longer given has none; one that an order adds has its words there, up to a comma.
 """
 import re
 import shutil
@@ -11,6 +11,12 @@ VERSION = re.compile(r'^#define GEUSOMIN_VERSION "(\d+\.\d+\.\d+)"$', re.M)
 STRICT = ["-Wall", "-Wextra", "-Wpedantic", "-Werror"]
 LANGUAGES = {"C99": ["gcc", "-std=c99", "-x", "c"], "C11": ["gcc", "-std=c11", "-x", "c"], "C++": ["g++", "-x", "c++"]}
 NUMBERS = (*range(41), 2 ** 32 - 1)  # those that header.c asks for
+ORDERS = 5  # so many orders of document 02 are in
+
+
+def order_words(orders):
+    """Of the refusals that these orders add."""
+    return {int(n): text for n, text in re.findall(r"(?:Refused: |; )(\d+) (.*?)(?=, )", orders)}
 
 
 def document_words(top):
@@ -20,6 +26,8 @@ def document_words(top):
     words = {int(n): text for n, text in re.findall(r"(?:^|\. |: )(\d+) (.*?)(?=, position|;|\.(?: |$))", causes, re.M)}
     shared, starts, *ends = re.search(r"(what remains [^:]*): 11 if (it starts) (with [^,]*), 12 if (with [^,]*), 13 (\w+)\.", causes).groups()
     words.update({11 + i: f"{shared}: {starts} {end}" for i, end in enumerate(ends)})
+    orders = orders[:orders.index(f"**order {ORDERS + 1}.")]
+    words.update(order_words(orders))
     gone = {int(n) for n in re.findall(r"Number (\d+) is no longer given", orders)}
     return {n: text for n, text in words.items() if n not in gone}
 

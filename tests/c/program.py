@@ -146,13 +146,14 @@ def lines_as_long_as_the_window(program):
 
 
 @test
-def a_first_argument_bench_or_replay_is_the_command(program):
-    for name in ("bench", "replay"):
+def a_first_argument_bench_replay_or_sheet_is_the_command(program):
+    for name in ("bench", "replay", "sheet"):
         pathlib.Path(name).write_bytes(F)
         summed(run([program, f"./{name}"]), 0, F_ANSWER, b"1 line, 1 accepted, 0 refused")
         summed(run([program, "--", name]), 0, F_ANSWER, b"1 line, 1 accepted, 0 refused")
     misused(run([program, "bench"]), "bench: takes one file")
     same(run([program, "replay"], b"general - -"), (0, b"no 4 0\n", b""))
+    same(run([program, "sheet"]), (0, b"ok 0 6\n", b""))
 
 
 @test
@@ -170,7 +171,7 @@ def answers_are_out_before_the_next_line_is_awaited(program):
 def help_and_version_go_to_standard_output(program):
     status, printed, told = run([program, "--help"])
     same((status, told), (0, b""))
-    for word in ("usage: geusomin", "--check", "--full", "--quiet", "--version", "replay", "bench FILE", "Status:"):
+    for word in ("usage: geusomin", "--check", "--full", "--quiet", "--version", "sheet [--check] [FILE]", "replay", "bench FILE", "Status:"):
         assert word in printed.decode(), word
     words = header.document_words(TOP)
     same(printed.decode().split("Refusals:\n")[1].splitlines(), [f"{number:4} {words[number]}" for number in sorted(words)])
@@ -354,13 +355,20 @@ def malformed_calls_end_replay(program):
         (b"general 0 -", "the bytes are not in pairs of digits"),
         (b"general 0g -", "the bytes are not in lower-case hex"),
         (b"general 6F -", "the bytes are not in lower-case hex"),
-        (b"general " + b"00" * (1 << 20) + b" -", "the line is too long"),
+        (b"sheet - 2097153", "the room is too large"),
+        (b"general " + b"00" * (1 << 22) + b" -", "the line is too long"),
     ):
         told = f"geusomin: replay: line 3: {why}\n".encode()
         same(run([program, "replay"], CALL * 2 + line + b"\n" + CALL), (2, b"no 4 0\n" * 2, told))
         with open("/dev/full", "wb") as full:
             failed(run([program, "replay"], CALL + line + b"\n", stdout=full), "standard output", errno.ENOSPC, None)
-    same(run([program, "replay"], b"general - 131072"), (0, b"no 4 0\n", b""))
+    same(run([program, "replay"], b"general - 131072\nsheet - 2097152"), (0, b"no 4 0\nok 060000003000\n", b""))
+
+
+@test
+def replay_takes_long_lines(program):
+    given = b"00" * (1 << 21)
+    same(run([program, "replay"], b"general %s -\nsheet %s -\n%s" % (given, given, CALL)), (0, b"no 8 0\nno 21 0 0\nno 4 0\n", b""))
 
 
 @test
