@@ -4,18 +4,22 @@
 //! The Rust's reading is `Descriptor::parse_declaration` of a `&str`, its result dropped; its
 //! canonical text and signature are `to_string()` of what was read before. This one's reading is
 //! `geusomin_parse_declaration` of bytes, UTF-8 checked, into a lent buffer that is not cleared
-//! between calls; its texts are the calls on the record, the check of the record included.
+//! between calls; its texts are the calls on the record, the check of the record included. The sheet
+//! call is timed beside the general call over the same lines.
 #[path = "../tests/compare/calls.rs"]
 mod calls;
 
-use calls::{ask, Call, READERS, WRITERS};
+use calls::{ask, ask_sheet, Call, READERS, WRITERS};
 use plain::abi::Descriptor;
+use std::collections::HashSet;
 use std::hint::black_box;
 use std::time::Instant;
 
 const ROUNDS: usize = 41;
 const SAMPLE_NS: f64 = 20_000_000.0;
 const MOST_RECORD: usize = 40_960;
+const MOST_SHEET: usize = 655_366;
+const DECLARATIONS: usize = 512;
 
 /// The nanoseconds of one call, round by round.
 struct Spent(Vec<f64>);
@@ -238,6 +242,57 @@ fn proportion() {
     }
 }
 
+// --- sheets ---------------------------------------------------------------------------------
+
+/// The keyword and the canonical text, none for a constructor: what no two lines of a sheet share.
+fn sameness(text: &[u8]) -> (u8, String) {
+    match Descriptor::parse_declaration(std::str::from_utf8(text).unwrap()).unwrap() {
+        Descriptor::Function(d) => (b'f', d.canonical().to_string()),
+        Descriptor::Event(d) => (b'v', d.canonical().to_string()),
+        Descriptor::Error(d) => (b'r', d.canonical().to_string()),
+        _ => (b'c', String::new()),
+    }
+}
+
+/// Ordinary declarations for one sheet: those that repeat none before them, then the same by longer names.
+fn apart(ordinary: &[Vec<u8>]) -> Vec<Vec<u8>> {
+    let longer = |text: &Vec<u8>| String::from_utf8(text.clone()).unwrap().replacen('(', "2(", 1).into_bytes();
+    let named = ordinary.iter().filter(|text| !text.starts_with(b"constructor")).map(longer);
+    let mut seen = HashSet::new();
+    ordinary.iter().cloned().chain(named).filter(|text| seen.insert(sameness(text))).take(DECLARATIONS).collect()
+}
+
+/// Functions of one name, with every three of eight kinds.
+fn overloads() -> Vec<Vec<u8>> {
+    let kinds = ["uint256", "address", "bool", "bytes32", "string", "uint8", "bytes", "int256"];
+    let overload = |i: usize| {
+        let [a, b, c] = [i, i / 8, i / 64].map(|digits| kinds[digits % 8]);
+        format!("function transfer({a} to, {b} value, {c} data) returns (bool success)").into_bytes()
+    };
+    (0..DECLARATIONS).map(overload).collect()
+}
+
+/// Prints a row and hands back how many times the general call's time over the lines the sheet takes.
+fn sheet(what: &str, lines: &[Vec<u8>]) -> f64 {
+    let text = lines.join(&b'\n');
+    let (mut a, mut b) = (vec![0; MOST_RECORD], vec![0; MOST_SHEET]);
+    assert_eq!((lines.len(), ask_sheet(&text, &mut b).0), (DECLARATIONS, 0));
+    let mut general = each(&READERS[0], lines, &mut a);
+    let mut whole = || {
+        black_box(ask_sheet(black_box(&text), &mut b));
+    };
+    let [general, whole] = spent(lines.len(), [&mut general, &mut whole]);
+    let (bytes, times) = (text.len() / lines.len(), general.ratio(&whole));
+    println!("{what:40} {bytes:6} {:9.0} {:7.0} {times:6.2}", general.median(), whole.median());
+    times
+}
+
+/// Hands back the times of ordinary declarations and of overloads.
+fn sheets(ordinary: &[Vec<u8>]) -> (f64, f64) {
+    println!("\n{:40} {:>6} {:>9} {:>7} {:>6}", "sheets, ns for a declaration", "bytes", "general", "sheet", "times");
+    (sheet("512 ordinary declarations", &apart(ordinary)), sheet("512 overloads of one name", &overloads()))
+}
+
 fn main() {
     let file = std::env::args().nth(1).expect("the file of ordinary declarations");
     let lines = std::fs::read_to_string(file).expect("a readable file");
@@ -256,8 +311,11 @@ fn main() {
         writing(what, texts);
     }
     proportion();
+    let (sheet, overloaded) = sheets(&ordinary);
     let slowest = slowest();
     println!("\nordinary declarations: reading {read:.2} times as fast as the Rust");
     println!("canonical {written:.2} times as fast");
     println!("slowest text of 4,096 bytes: {slowest:.2} times an ordinary one");
+    println!("a sheet of 512 ordinary declarations: {sheet:.2} times the general call over its lines");
+    println!("of 512 overloads: {overloaded:.2} times, {:.2} times that", overloaded / sheet);
 }

@@ -1,4 +1,4 @@
-//! The calls of libgeusomin.a, as include/geusomin.h has them. All have one shape.
+//! The calls of libgeusomin.a, as include/geusomin.h has them. All but the sheet call have one shape.
 
 pub type Entry = unsafe extern "C" fn(*const u8, usize, *mut u8, usize, *mut usize) -> u32;
 
@@ -51,4 +51,22 @@ pub fn ask(call: &Call, input: &[u8], lent: &mut [u8]) -> Answer {
         (call.entry)(input.as_ptr(), input.len(), lent.as_mut_ptr(), lent.len(), &mut value)
     };
     (number, value)
+}
+
+extern "C" {
+    fn geusomin_parse_sheet(
+        text: *const u8, length: usize, record: *mut u8, room: usize, value: *mut usize, line: *mut usize,
+    ) -> u32;
+}
+
+/// The answer of the sheet call, with its line.
+pub type LinedAnswer = (u32, usize, usize);
+
+pub fn ask_sheet(text: &[u8], lent: &mut [u8]) -> LinedAnswer {
+    let (mut value, mut line) = (usize::MAX, usize::MAX);
+    // As above.
+    let number = unsafe {
+        geusomin_parse_sheet(text.as_ptr(), text.len(), lent.as_mut_ptr(), lent.len(), &mut value, &mut line)
+    };
+    (number, value, line)
 }

@@ -8,6 +8,7 @@ mod original;
 mod random;
 mod records;
 mod rows;
+mod sheets;
 mod texts;
 
 use calls::{ask, Answer, Call, MESSAGES, READERS, WRITERS};
@@ -15,6 +16,7 @@ use original::{Said, Texts, KIND};
 use random::Random;
 use rows::Due;
 use std::collections::BTreeMap;
+use std::fmt::Debug;
 
 /// The differences that docs/DIFFERENCES.md lists and a text can show.
 #[derive(Clone, Copy, PartialEq, Eq, PartialOrd, Ord)]
@@ -65,6 +67,9 @@ const LONGEST: usize = 40_960;
 /// The longest text that is read.
 const MOST_BYTES: usize = 4096;
 
+/// For so many texts there is a sheet.
+const TEXTS_A_SHEET: usize = 20;
+
 /// The places of the kind-text call and of the full-text call in calls::WRITERS.
 const KIND_TEXT: usize = 2;
 const FULL: usize = 4;
@@ -80,6 +85,8 @@ struct Compare {
     records: usize,
     again: usize,
     lines: usize,
+    sheets: usize,
+    declarations: usize,
 }
 
 impl Compare {
@@ -116,20 +123,28 @@ impl Compare {
         }
     }
 
-    /// One call with a room; every byte around and in it is looked at afterwards.
+    /// One call with a room.
     fn lend(&mut self, call: &Call, input: &[u8], room: usize, output: &[u8], answer: Answer) {
         let short = answer.0 == 0 && room < output.len();
         if short {
             self.count(call, 20);
         }
         let (answer, output) = if short { ((20, 0), &[][..]) } else { (answer, output) };
+        self.lent(call.name, input, room, output, answer, |lent| ask(call, input, lent));
+    }
+
+    /// A call that is asked so, with an answer of any shape; every byte around and in the lent room is looked
+    /// at afterwards.
+    fn lent<A: PartialEq + Debug>(
+        &mut self, name: &str, input: &[u8], room: usize, output: &[u8], answer: A, ask: impl FnOnce(&mut [u8]) -> A,
+    ) {
         let size = room + 2 * GUARD;
         if self.buffer.len() < size {
             self.buffer.resize(size, FILL);
             self.fill.resize(size, FILL);
         }
         self.asked += 1;
-        let given = ask(call, input, &mut self.buffer[GUARD..GUARD + room]);
+        let given = ask(&mut self.buffer[GUARD..GUARD + room]);
         let written = GUARD + output.len();
         let kept = self.buffer[..GUARD] == self.fill[..GUARD]
             && self.buffer[written..size] == self.fill[written..size];
@@ -140,7 +155,7 @@ impl Compare {
         }
         let buffer = self.buffer[GUARD..written].to_vec();
         self.buffer.fill(FILL);
-        self.differ(call.name, input, || {
+        self.differ(name, input, || {
             let bytes = match (good, kept) {
                 (true, true) => "the bytes right".to_string(),
                 (true, false) => "bytes changed that are not the output's".to_string(),
@@ -402,10 +417,11 @@ impl Compare {
             print!("{:>10}", if *n == 0 { "ok".to_string() } else { n.to_string() });
         }
         println!();
-        for call in READERS.iter().chain(WRITERS).chain(MESSAGES) {
-            print!("{:19}", call.name);
+        let calls = READERS.iter().chain(WRITERS).chain(MESSAGES);
+        for name in calls.map(|call| call.name).chain([sheets::NAME]) {
+            print!("{name:19}");
             for n in &numbers {
-                print!("{:>10}", self.outcomes.get(&(call.name, *n)).unwrap_or(&0));
+                print!("{:>10}", self.outcomes.get(&(name, *n)).unwrap_or(&0));
             }
             println!();
         }
@@ -426,6 +442,7 @@ fn run(count: usize, seed: u64) -> bool {
     let mut compare = Compare::default();
     let mut random = Random::new(seed + 1);
     let mut read = vec![];
+    let mut sheets = sheets::Maker::new(seed + 2);
     let mut texts = 0;
     for size in [40_959, 40_960, 40_961, 50_000] {
         compare.record(&records::of_size(size));
@@ -460,15 +477,20 @@ fn run(count: usize, seed: u64) -> bool {
             texts::damage(&mut random, &mut record);
         }
         compare.record(&record);
+        sheets.note(text);
+        if texts % TEXTS_A_SHEET == 0 {
+            compare.sheet(&sheets.sheet());
+        }
     });
     compare.table();
     for (rule, times) in &compare.rules {
         println!("listed: {times:>9} {}", rule.says());
     }
-    let calls = READERS.len() + WRITERS.len() + MESSAGES.len();
+    let calls = READERS.len() + WRITERS.len() + MESSAGES.len() + 1;
     let (asked, records) = (compare.asked, compare.records);
     println!("{calls} functions called {asked} times; {records} records made up; seed {seed}");
     println!("{} kind texts of fields read again, full lines {} times", compare.again, compare.lines);
+    println!("{} sheets, those that were accepted with {} declarations", compare.sheets, compare.declarations);
     println!("compare: {texts} texts, {} unlisted differences", compare.unlisted);
     compare.unlisted == 0
 }

@@ -69,6 +69,15 @@ pub fn forgotten(record: &[u8]) -> Option<Vec<u8>> {
     Some(copy)
 }
 
+/// A copy with these marks in the own lists.
+pub fn marked(record: &[u8], marks: &[u16]) -> Vec<u8> {
+    let mut copy = record.to_vec();
+    for (field, mark) in own_fields(record).expect("a record by document 01").into_iter().zip(marks) {
+        copy[field + HEAD..][..NUMBER].copy_from_slice(&mark.to_le_bytes());
+    }
+    copy
+}
+
 // --- own lists of a text --------------------------------------------------------------
 
 /// What stands between the brackets and commas of a text's own lists, none of it within a tuple. A list
