@@ -15,8 +15,9 @@ make_answers() {
   python3 "$HERE/texts.py" > "$WORK/texts.txt"
   "$ORACLE" < "$WORK/texts.txt" > "$WORK/replies.txt"
   paste -d ' ' "$WORK/texts.txt" "$WORK/replies.txt" > "$WORK/asked.txt"
-  # visibility words where they may stand are not the Rust's
-  python3 "$HERE/visible.py" "$ORACLE" < "$WORK/asked.txt" > "$WORK/answers.txt"
+  # visibility words where they may stand, and numbers that are not plain, are not the Rust's
+  python3 "$HERE/visible.py" "$ORACLE" < "$WORK/asked.txt" > "$WORK/visible.txt"
+  python3 "$HERE/plain.py" "$ORACLE" < "$WORK/visible.txt" > "$WORK/answers.txt"
 }
 
 # A row for each call; columns for ok, each refusal's number, panic, and the sum.

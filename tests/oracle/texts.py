@@ -3,8 +3,9 @@
 
 A line is `CALL HEX`: the reading call, and the text's bytes in lower-case hex, `-` if
 there are none. Each group of texts below is a function that yields pairs of call and
-text. `main` drops repeated pairs and texts outside the domain; visible.py drops those with
-a visibility word where it may stand, when the oracle has told where that is.
+text. `main` drops repeated pairs and texts outside the domain; when the oracle has answered,
+visible.py drops those with a visibility word where it may stand, and plain.py those with a
+number that is not plain where the Rust reads it.
 """
 
 import random
@@ -150,19 +151,12 @@ def ordinary():
 # --- kinds ------------------------------------------------------------------------
 
 
-def spellings(number):
-    """The ways of writing a number that the Rust takes: leading zeros, `+`, both."""
-    return [f"{number}", f"0{number}", f"+{number}", f"+00{number}"]
-
-
 def elementary_kinds():
-    """Every elementary kind and width in every spelling."""
+    """Every elementary kind and width."""
     yield from by_kind(PLAIN_KINDS)
     for width in WIDTHS:
-        yield from by_kind([f"int{width}", f"int+0{width}"])
-        yield from by_kind("uint" + number for number in spellings(width))
-    for length in BYTE_LENGTHS:
-        yield from by_kind("bytes" + number for number in spellings(length))
+        yield from by_kind([f"int{width}", f"uint{width}"])
+    yield from by_kind(f"bytes{length}" for length in BYTE_LENGTHS)
 
 
 def bad_numbers():
@@ -170,6 +164,8 @@ def bad_numbers():
     is no number: refusals 11 and 12."""
     numbers = [*range(18), 31, 33, 34, 40, 64, 127, 128, 255, 257, 264, 512, 65544]
     numbers += [2**32 - 8, 2**32, 2**32 + 8, 2**64, 2**64 + 1, 2**64 + 8, 2**128 + 8]
+    # not plain, and wrong without the sign and the zeros too
+    numbers += ["00", "+0", "+00", "07", "+7", "+007", "033", "+33", "0257", "+264", f"+{2**64}", f"00{2**64}"]
     signs = ["+", "-8", "-0", "++8", "+-8", "8+", "8 ", " 8", "8_", "0x8", "8.0", "1e1", "a"]
     others = ["٨", "８", "²", "é", "\0", "8\0", "\u00a08", "8\u3000"]
     for stem in ["int", "uint", "bytes"]:
@@ -201,7 +197,7 @@ def array_suffixes():
         "[]x", "[2]x", "[", "]", "[][", "[]]", "[2][", "[2", "2]", "[] ", "[][x]", "[x][]",
         "[2][x][]", "[][ ][2]", "[2[3]", "[2]3]", "()", "[()]",
     ]
-    stems = [*PLAIN_KINDS, "int8", "uint08", "bytes32", "uint7", "bytes33", "x", ""]
+    stems = [*PLAIN_KINDS, "int8", "uint16", "bytes32", "uint7", "bytes33", "x", ""]
     yield from by_kind(stem + chain for stem in stems for chain in chains[:8])
     yield from by_kind(stem + chain for stem in ["uint", "bytes", "bool", ""] for chain in chains)
 
@@ -440,7 +436,7 @@ def invalid_utf8():
 
 
 class Maker:
-    """Makes good declarations by document 01's grammar, in every spelling."""
+    """Makes good declarations by the grammar, with every blank; numbers are plain."""
 
     NAMES = ["a", "b1", "_", "$x", "to", "memory", "indexed", "returns", "uint", "function"]
 
@@ -463,16 +459,15 @@ class Maker:
         return "".join(make() for _ in range(self.one_of([0, 0, 1, 1, 2])))
 
     def suffix(self):
-        length = self.one_of(spellings(self.random.randrange(12)))
-        return self.one_of(["[]", f"[{length}]"])
+        return self.one_of(["[]", f"[{self.random.randrange(12)}]"])
 
     def elementary_kind(self):
-        integer = self.one_of(["int", "uint"]) + self.one_of(spellings(self.one_of(WIDTHS)))
-        fixed = "bytes" + self.one_of(spellings(self.one_of(BYTE_LENGTHS)))
+        integer = f"{self.one_of(['int', 'uint'])}{self.one_of(WIDTHS)}"
+        fixed = f"bytes{self.one_of(BYTE_LENGTHS)}"
         return self.one_of([integer, fixed, *PLAIN_KINDS]) + self.some(self.suffix)
 
     def tuple_suffix(self):
-        digits = self.one_of(["", "2", "07"])
+        digits = self.one_of(["", "2", "70"])
         return f"{self.gap()}[{digits}{self.gap()}]"
 
     def kind(self, depth):
@@ -541,16 +536,16 @@ GOOD_DECLARATIONS = [
     "function g(string memory s,(int,bool)[2] t) view;",
     "function h((uint8[] a,(bytes b)[])[ ] calldata c) payable",
     "constructor(bytes32[4] r, string memory) payable;",
-    "constructor((address,uint+96 fee)[2 ] c)",
-    "event E(address indexed a,uint08 b) anonymous",
+    "constructor((address,uint96 fee)[2 ] c)",
+    "event E(address indexed a,uint8 b) anonymous",
     "event T((int,()[3]) indexed,string indexed s);",
     "error Low(uint256 have, uint256 want)",
-    "error O(((bool a)[],bytes+032)[1][] x)",
+    "error O(((bool a)[],bytes32)[1][] x)",
     "function\u00a0f(\u2003bool\u3000a\u0085)\u2028pure",
 ]
 
-GOOD_KINDS = ["uint256[2][]", "bytes32[+07]", "int+08[][10]", "address[]", "string[0]"]
-GOOD_TUPLES = ["(uint256,(bool,bytes32)[2][])[07]", "((),address[+3],int08)"]
+GOOD_KINDS = ["uint256[2][]", "bytes32[7]", "int8[][10]", "address[]", "string[0]"]
+GOOD_TUPLES = ["(uint256,(bool,bytes32)[2][])[70]", "((),address[3],int8)"]
 
 
 class Damager:
