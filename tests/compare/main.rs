@@ -29,6 +29,7 @@ enum Rule {
     KindCrowded,
     Place,
     Visibility,
+    Number,
     Panic,
     Escape,
 }
@@ -44,6 +45,7 @@ impl Rule {
             Rule::KindCrowded => "kind text starts with a bracket, 33 more open than close: 10",
             Rule::Place => "place word: mark 2 or 3, which the Rust forgets",
             Rule::Visibility => "visibility word, which the Rust refuses: as with spaces for it",
+            Rule::Number => "number that is not plain, which the Rust reads: as with letters for it",
             Rule::Panic => "context cuts a character, the Rust panics: error as elsewhere",
             Rule::Escape => "message copies what the Rust escapes",
         }
@@ -184,20 +186,26 @@ impl Compare {
         self.message(place, text, "");
     }
 
-    /// One reading call and its message call, by the Rust's answer to the text or, if a visibility word
-    /// stands where it may, to the text with spaces for that word. Of a kind text that starts with `(` the
-    /// brackets are counted first.
+    /// One reading call and its message call, by the Rust's answer to the text: with letters for each
+    /// number that is not plain and, if a visibility word stands where it may, with spaces for that word.
+    /// The message shows the text itself. Of a kind text that starts with `(` the brackets are counted
+    /// first.
     fn reading(&mut self, place: usize, text: &str, record: &mut Vec<u8>) {
         let (call, bytes) = (&READERS[place], text.as_bytes());
         let bracketed = place == KIND && text.starts_with('(');
         if let Some(position) = document::crowded(bytes).filter(|_| bracketed) {
             return self.refused(place, bytes, Rule::KindCrowded, (10, position));
         }
-        let spaced = original::spaced(place, text);
+        let letters = original::with_letters(text);
+        if letters.as_ref().is_some_and(|letters| original::differ(place, text, letters)) {
+            self.listed(Rule::Number);
+        }
+        let plain = letters.as_deref().unwrap_or(text);
+        let spaced = original::spaced(place, plain);
         if spaced.is_some() {
             self.listed(Rule::Visibility);
         }
-        let known = spaced.as_deref().unwrap_or(text);
+        let known = spaced.as_deref().unwrap_or(plain);
         if let Some(position) = original::too_deep(place, known) {
             return self.refused(place, bytes, Rule::TooDeep, (10, position));
         }
@@ -460,6 +468,9 @@ fn run(count: usize, seed: u64) -> bool {
     }
     for (text, line) in rows::FULL {
         compare.full_row(text, line);
+    }
+    for (call, text, due) in &rows::NUMBERS {
+        compare.row(&READERS[*call], text.as_bytes(), due);
     }
     texts::each(count, seed, |text| {
         texts += 1;

@@ -312,6 +312,44 @@ pub fn agrees(text: &str, said: &Said) -> bool {
     }
 }
 
+// --- order 7: numbers that are not plain --------------------------------------------------
+
+/// Whether a number may stand behind this: behind a bracket, or behind a word that takes a width or a
+/// length, where a kind begins.
+fn awaits_number(before: &str) -> bool {
+    let parts = |c: char| c.is_whitespace() || matches!(c, '(' | ',' | ')');
+    let run = before.rsplit(parts).next().unwrap();
+    let front = before[..before.len() - run.len()].trim_end();
+    let begins = front.is_empty() || front.ends_with(['(', ',']);
+    before.ends_with('[') || begins && matches!(run, "int" | "uint" | "bytes")
+}
+
+/// The text with as many letters for each number with a sign or a leading zero; none if it has none.
+pub fn with_letters(text: &str) -> Option<String> {
+    let mut letters = text.as_bytes().to_vec();
+    let mut at = 0;
+    while at < text.len() {
+        let signed = text.as_bytes()[at] == b'+';
+        let digits = text.bytes().skip(at + signed as usize).take_while(u8::is_ascii_digit).count();
+        let end = at + signed as usize + digits;
+        let leading_zero = digits > 1 && text.as_bytes()[at] == b'0';
+        if digits > 0 && (signed || leading_zero) && awaits_number(&text[..at]) {
+            letters[at..end].fill(b'x');
+        }
+        at = end.max(at + 1);
+    }
+    (letters != text.as_bytes()).then(|| String::from_utf8(letters).unwrap())
+}
+
+/// Whether the original answers the two texts otherwise, but for what it read.
+pub fn differ(call: usize, text: &str, other: &str) -> bool {
+    let [one, two] = [text, other].map(|text| match read(call, text) {
+        Said::Read { .. } => None,
+        Said::Refused { number, position, .. } | Said::Panicked { number, position } => Some((number, position)),
+    });
+    one != two
+}
+
 /// Order 2's words, which the original does not know.
 pub const VISIBILITY: [&str; 2] = ["external", "public"];
 

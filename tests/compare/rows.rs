@@ -2,6 +2,7 @@
 use crate::calls::Answer;
 use crate::document::{FIELD, FUNCTION, HEAD, LENGTH, NAME};
 use crate::marks::UNMARKED;
+use crate::original::{GENERAL, KIND};
 
 /// What is due of a call.
 pub enum Due {
@@ -81,7 +82,7 @@ pub const FULL: [(&str, &str); 12] = [
         "function returns(uint returns) pure returns(bool pure)",
         "function returns(uint256 returns) pure returns (bool pure)",
     ),
-    ("constructor((uint a,())[02] memory b)", "constructor((uint256 a,())[2] memory b)"),
+    ("constructor((uint a,())[2 ] memory b)", "constructor((uint256 a,())[2] memory b)"),
     ("function f(bytes calldata)payable", "function f(bytes calldata) payable"),
     ("function f(bytes32 calldata)pure", "function f(bytes32 calldata) pure"),
     ("error e( ( ) [ ] [2 ] , ( ) a );", "error e(()[][2],() a)"),
@@ -100,9 +101,6 @@ pub fn kind_tuples() -> Vec<(Vec<u8>, Due)> {
         ("((uint)[2],bool[])[3]".into(), Kind(20 + (42 + 14) + (20 + 6) + 14)),
         (deepest("").into(), Kind(32 * 20)),
         (deepest("uint").into(), Kind(32 * 20 + 22)),
-        ("(uint[+2])".into(), Kind(42 + 14)),
-        ("(uint08)".into(), Kind(42)),
-        ("(uint)[02]".into(), Kind(42 + 14)),
         (open(32).into(), Refused(13, 0)),
         (open(33).into(), Refused(10, 32)),
         (["(x", &open(32)].concat().into(), Refused(10, 33)),
@@ -125,3 +123,37 @@ pub fn kind_tuples() -> Vec<(Vec<u8>, Due)> {
     rows.extend(unfit.map(|text| (text.into(), Refused(13, 0))));
     rows
 }
+
+/// Order 7: calls, and texts with numbers that are plain and that are not.
+pub const NUMBERS: [(usize, &str, Due); 30] = [
+    (KIND, "uint08", Refused(11, 0)),
+    (KIND, "uint[+2]", Refused(11, 0)),
+    (KIND, "uint[00]", Refused(11, 0)),
+    (KIND, "uint[2][02]", Refused(11, 0)),
+    (KIND, "bytes01", Refused(12, 0)),
+    (KIND, "bytes[02]", Refused(12, 0)),
+    (KIND, "bytes4[01]", Refused(12, 0)),
+    (KIND, "bool[02]", Refused(13, 0)),
+    (KIND, "address[010]", Refused(13, 0)),
+    (KIND, "(uint08)", Refused(13, 0)),
+    (KIND, "(uint)[02]", Refused(13, 0)),
+    (KIND, "(uint)[2][03]", Refused(13, 0)),
+    (KIND, "uint[0]", Kind(22 + 14)),
+    (KIND, "uint[10]", Kind(22 + 14)),
+    (KIND, "(uint)[0]", Kind(42 + 14)),
+    (KIND, "uint[18446744073709551615]", Kind(22 + 14)),
+    (KIND, "uint0", Refused(11, 0)),
+    (KIND, "uint00", Refused(11, 0)),
+    (KIND, "bytes0", Refused(12, 0)),
+    (KIND, "x[02]", Refused(13, 0)),
+    (KIND, "uint12[02]", Refused(11, 0)),
+    (GENERAL, "function f(uint08)", Refused(3, 11)),
+    (GENERAL, "function f(bool,uint08)", Refused(3, 15)),
+    (GENERAL, "error e(bytes+1)", Refused(3, 8)),
+    (GENERAL, "function f((uint)[02])", Refused(3, 17)),
+    (GENERAL, "function f((uint)[2][03])", Refused(3, 20)),
+    (GENERAL, "function f(((uint)[02]))", Refused(3, 11)),
+    (GENERAL, "function f() returns ((bool)[01])", Refused(3, 28)),
+    (GENERAL, "function f(uint a08)", Stated(NOT_STATED)),
+    (GENERAL, "function f08(uint $0)", Stated(NOT_STATED)),
+];

@@ -37,6 +37,7 @@ pub fn each(count: usize, seed: u64, mut take: impl FnMut(&[u8])) {
     visible(&mut counted);
     named(&mut counted);
     bracketed(&mut counted);
+    numbered(&mut counted);
     let left = count.saturating_sub(made);
     short(left / 3, &mut take);
     let mut maker = Maker { random: Random::new(seed), out: vec![], loose: false, bare: false, deep: 0 };
@@ -257,6 +258,26 @@ fn bracketed(take: &mut impl FnMut(&[u8])) {
     }
 }
 
+/// Numbers with signs and zeros before them, wherever one may stand and where none may.
+fn numbered(take: &mut impl FnMut(&[u8])) {
+    rows::NUMBERS.iter().for_each(|(_, text, _)| take(text.as_bytes()));
+    let fronts = ["", "+", "0", "00", "+0", "000000000000000000000000", "++", "+-", "-", "0x"];
+    let kinds = [
+        "uint~8", "int~256[]", "bytes~32", "bytes~1[2]", "uint[~0]", "bytes[~2][]", "bool[][~10]", "x[~2]",
+        "uint12[~2]", "uint~0", "bytes~0", "int~264", "uint~18446744073709551624", "bool[~18446744073709551615]",
+        "bool[~18446744073709551616]", "uint~8x", "uint~8[", "bool[~2", "bool[~2]]", "bool[~2]x", "bool[x~2]",
+        "uint a~8", "uint int~8", "uint int~8 x", "uint bytes~8,bool", "()~8", "()[~0]", "(uint)[2][~3]",
+        "() [~2 ]", "()[ ~2]", "()[~2", "()a[~2]", "()[~18446744073709551616]", "(uint~8 a)[~2]", "( int~8)",
+    ];
+    let places = [
+        "~", "function f(~)", "constructor(bool,~)", "event e( ~ indexed a)", "error e((~) t)", "error e(x,~)",
+        "function f(bool) returns (int,~ a)", "function f((bool,(~)[]))pure external", "(~)", "(bool,~)[]",
+    ];
+    for text in places.iter().flat_map(|place| kinds.map(|kind| place.replacen('~', kind, 1))) {
+        fronts.iter().for_each(|front| take(text.replace('~', front).as_bytes()));
+    }
+}
+
 // --- exhaustive short texts ---------------------------------------------------------------
 
 /// Where strings of tokens are put: what stands before them, behind them, and the tokens.
@@ -304,7 +325,7 @@ const NAMES: [&str; 18] = [
 struct Maker {
     random: Random,
     out: Vec<u8>,
-    /// Whether blanks, signs and leading zeros are strewn in.
+    /// Whether blanks are strewn in and, now and then, signs and leading zeros.
     loose: bool,
     /// Whether it is a kind text, where blanks, marks and names are rare.
     bare: bool,
@@ -347,12 +368,17 @@ impl Maker {
         self.gap();
     }
 
-    /// A number from `least` to `most` in some spelling; now and then a bad one.
-    fn number(&mut self, least: u64, most: u64) {
-        if self.loose {
-            let sign = self.random.of(&["", "", "+", "0", "+00"]);
-            self.put(sign);
+    /// What makes a number one that is not plain, now and then.
+    fn front(&mut self) {
+        if self.loose && self.random.once_in(16) {
+            let front = self.random.of(&["+", "0", "+00"]);
+            self.put(front);
         }
+    }
+
+    /// A number from `least` to `most`; now and then a bad one.
+    fn number(&mut self, least: u64, most: u64) {
+        self.front();
         let n = match self.random.below(40) {
             0 => most as u128 + 1,
             1 => least.saturating_sub(1) as u128,
@@ -373,9 +399,9 @@ impl Maker {
                 if self.random.once_in(20) {
                     self.number(8, 256);
                 } else {
-                    let sign = if self.loose { self.random.of(&["", "+", "0", "+00"]) } else { "" };
+                    self.front();
                     let width = 8 * (1 + self.random.below(32));
-                    self.put(&format!("{sign}{width}"));
+                    self.put(&width.to_string());
                 }
             }
             2 => {

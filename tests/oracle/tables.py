@@ -3,9 +3,12 @@
 
 Usage: tests/oracle/tables.py [--check]     ORACLE names the program that build.sh builds
 A row is a call, the room that it is lent and an input. Numbers, positions and lines are written here as document 02's
-tables have them; whole declarations are put together by its sentences. A record is the Rust's, of a text that document 02 says to be read the same: its bytes come from the
-oracle. An input is a text, or bytes where it is no UTF-8. With --check the files are compared instead of written; the exit status is then 1 if they differ.
+tables have them; whole declarations are put together by its sentences. A record is the Rust's, of a text that document
+02 says to be read the same, and of a number that is not plain the refusal is the Rust's, of the text with letters in that
+place: both come from the oracle. An input is a text, or bytes where it is no UTF-8. With --check the files are compared
+instead of written; the exit status is then 1 if they differ.
 """
+import itertools
 import os
 import pathlib
 import subprocess
@@ -34,6 +37,8 @@ def lined(number, line, position=0):
 
 class As:
     """The record that the Rust writes of a text."""
+
+    outcome = "ok"
 
     def __init__(self, text, call="general"):
         self.asked = [f"{call} {text.encode().hex()}"]
@@ -77,6 +82,15 @@ class Sheet(As):
         return f"{super().printed(*records)} line 0"
 
 
+class Refused(As):
+    """The refusal that the Rust gives to a text."""
+
+    outcome = "no"
+
+    def printed(self, number, position):
+        return no(number, position)
+
+
 # Order 2: visibility words.
 
 def visibility():
@@ -118,7 +132,6 @@ def kind_tuples():
     for text in (
         "()", "(uint)", "(uint)[2][][0]", "((uint)[2],bool[])[3]",
         "(" * 32 + ")" * 32, "(" * 32 + "uint" + ")" * 32, "(" * 32 + ")[]" * 32,
-        "(uint[+2])", "(uint08)", "(uint)[02]",  # until order 7
     ):
         yield "kind", AMPLE, text, Kind(text)
     for text in (
@@ -139,7 +152,7 @@ def kind_tuples():
     yield "kind", 0, "(uint)x", no(13, 0)
     yield "kind", 0, "(" * 33, no(10, 32)
     for text, written in (
-        ("()", "()"), ("(uint)[2][][0]", "(uint256)[2][][0]"), ("((int)[2],bool[])[3]", "((int256)[2],bool[])[3]"), ("(uint)[02]", "(uint256)[2]"),
+        ("()", "()"), ("(uint)[2][][0]", "(uint256)[2][][0]"), ("((int)[2],bool[])[3]", "((int256)[2],bool[])[3]"),
     ):
         yield "kind_text", AMPLE, text, line(written)
 
@@ -260,7 +273,46 @@ def sheets():
     yield "sheet", 0, "x", lined(4, 1)
 
 
-TABLES = (visibility, kind_tuples, full_text, sheets)
+# Order 7: plain numbers.
+
+FRONTS = ("+", "0", "0" * 20)  # a number with one of these in front is not plain
+NUMBERED = (  # kinds, taken apart around a number
+    ("uint", "8", ""), ("int", "256", "[]"), ("bytes", "32", ""), ("uint[", "0", "]"), ("bytes[", "2", "][]"), ("bool[][", "10", "]"),
+    ("(uint", "8", ")"), ("(uint)[", "0", "]"), ("(uint)[2][", "3", "]"), ("((bool)[", "2", "],int)"),
+)
+PLACES = (  # where a kind may stand
+    ("kind", "{}"), ("general", "function f(bool,{} a)"), ("general", "function f(int,({} a)[])"), ("general", "function f() returns (bool,{})"),
+    ("general", "constructor({})"), ("general", "event e({} indexed a)"),
+)
+
+
+def plain_numbers():
+    for number, texts in (
+        (11, "uint08 uint[+2] uint[00] uint[2][02] uint0 uint00 uint12[02]"),
+        (12, "bytes01 bytes[02] bytes4[01] bytes0"),
+        (13, "bool[02] address[010] (uint08) (uint)[02] (uint)[2][03] x[02] (uint[+2])"),
+    ):
+        for text in texts.split():
+            yield "kind", AMPLE, text, no(number, 0)
+    for text in ("uint[0]", "uint[10]", "(uint)[0]", "uint[18446744073709551615]"):
+        yield "kind", AMPLE, text, Kind(text)
+    for text, position in (
+        ("function f(uint08)", 11), ("function f(bool,uint08)", 15), ("error e(bytes+1)", 8),
+        ("function f((uint)[02])", 17), ("function f((uint)[2][03])", 20), ("function f(((uint)[02]))", 11), ("function f() returns ((bool)[01])", 28),
+    ):
+        yield "general", AMPLE, text, no(3, position)
+    for text in ("function f(uint a08)", "function f08(uint $0)", "function f(uint uint08)"):
+        yield "general", AMPLE, text, As(text)
+    yield "message", AMPLE, "function f(uint08)", line('expected ) at position 11("...unction f(|uint08)")')
+    for (before, number, behind), (call, shape) in itertools.product(NUMBERED, PLACES):
+        plain = shape.format(before + number + behind)
+        yield call, AMPLE, plain, Kind(plain) if call == "kind" else As(plain)
+        for front in FRONTS:
+            letters = "x" * len(front + number)
+            yield call, AMPLE, shape.format(before + front + number + behind), Refused(shape.format(before + letters + behind), call)
+
+
+TABLES = (visibility, kind_tuples, full_text, sheets, plain_numbers)
 
 
 def as_bytes(text):
@@ -283,13 +335,13 @@ def answers(rows):
         if not isinstance(said, As):
             yield said
             continue
-        records = []
+        told = []
         for text in said.asked:
-            outcome, record, *_ = next(replies).split(" ")
-            if outcome != "ok":
-                sys.exit(f"the Rust refuses what is said to be read: {text}")
-            records.append(bytes.fromhex(record))
-        yield said.printed(*records)
+            outcome, *reply = next(replies).split(" ")
+            if outcome != said.outcome:
+                sys.exit(f"the Rust does not say {said.outcome}: {text}")
+            told.extend([bytes.fromhex(reply[0])] if outcome == "ok" else reply[:2])
+        yield said.printed(*told)
 
 
 def main():

@@ -11,14 +11,14 @@ use lib.ListN.{length, take, drop, length-drop}
 use lib.Seq.{length-take-le}
 use borrow.Author.Tests.{eq-eqb, ne-eqb}
 use Rattle.kinds.specs.Bytes.{isDigit, lbracket, rbracket, rparen}
-use Rattle.kinds.specs.Decimal.{plain}
+use Rattle.kinds.specs.Decimal.{number}
 use Rattle.kinds.specs.Kind.{Suffix, sized, unsized}
 use Rattle.model.specs.declared.Refusal.{Refusal}
 use Rattle.model.specs.declared.Refusal.the-variants.{Eos, ExpectClose}
 use Rattle.model.specs.Text.{span, one, skip, peek, part}
-use Rattle.model.specs.KindText.{longest, sizedBy}
+use Rattle.model.specs.KindText.{longest, sizedBy, inside}
 use Rattle.model.specs.Parser.{got, bad, Found, found, missing, onAns, look, takeChar, whyNot}
-use Rattle.model.specs.Reading.{ofDigits, closed, arraySuffix, closing}
+use Rattle.model.specs.Reading.{closed, arraySuffix, closing}
 use Rattle.model.specs.Record.{encodeFields}
 use Rattle.model.proofs.Scans.{part-rest}
 use Rattle.text.specs.Found.{toOption}
@@ -94,38 +94,39 @@ module _ (s : List ℕ) (b n p c : ℕ) (h : b ≤ length s) (e : n ≡ span (on
   fits : b + n ≤ length s
   fits = omega (arith, rw (part-rest, length-drop) at l)
 
-  inside-is : (o : Option Suffix) (f : Found (Unit {0})) (r : Bracket) → ofDigits (part s b n) ≡ o → look rbracket s (b + n) ≡ f → toFound r ≡ closed o f → Behind s b r → InsideIs s b r
+  inside-is : (o : Option Suffix) (f : Found (Unit {0})) (r : Bracket) → inside (part s b n) ≡ o → look rbracket s (b + n) ≡ f → toFound r ≡ closed o f → Behind s b r → InsideIs s b r
   inside-is o f r x y q z = record { same = q ∙ rw (digits-are, x, y); behind = z }
 
   pub inside-unsized : c ≡ 93 → n ≡ 0 → InsideIs s b (bracket.Unsized (p + 1))
-  unfolding toFound
-  inside-unsized w z = inside-is (some unsized) (found tt (p + 1)) (bracket.Unsized (p + 1)) (rw z) (look-found s (b + n) p c rbracket v w) refl (omega (arith, v .low, v .inside, v .edge))
+  unfolding toFound inside
+  inside-unsized w z = inside-is (some unsized) (found tt (p + 1)) (bracket.Unsized (p + 1)) (rw (z, inside)) (look-found s (b + n) p c rbracket v w) refl (omega (arith, v .low, v .inside, v .edge))
 
-  number-of : (o : Option ℕ) → (n ≡ 0 → ⊥) → plain longest (part s b n) ≡ o → ofDigits (part s b n) ≡ sizedBy o
+  number-of : (o : Option ℕ) → (n ≡ 0 → ⊥) → number longest (part s b n) ≡ o → inside (part s b n) ≡ sizedBy o
+  unfolding inside
   number-of o z q = go (part s b n) refl (λ y. z (sym (length-take-le n (drop b s) (rw length-drop (omega (arith, fits)))) ∙ y))
     where
-      go : (m : List ℕ) → part s b n ≡ m → (length (part s b n) ≡ 0 → ⊥) → ofDigits (part s b n) ≡ sizedBy o
+      go : (m : List ℕ) → part s b n ≡ m → (length (part s b n) ≡ 0 → ⊥) → inside (part s b n) ≡ sizedBy o
       go [] f y = absurd (y (ap length f))
-      go (d ∷ m) f y = rw f (ap sizedBy (ap (plain longest) (sym f) ∙ q))
+      go (d ∷ m) f y = rw f (ap sizedBy (ap (number longest) (sym f) ∙ q))
 
   part-is : take (b + n - b) (drop b s) ≡ part s b n
   part-is = let z : b + n - b ≡ n = omega arith in rw z
 
-  pub inside-sized : (m : Maybe) (k : ℕ) → c ≡ 93 → (n ≡ 0 → ⊥) → toOption m ≡ plain longest (take (b + n - b) (drop b s)) → m ≡ Value k → InsideIs s b (bracket.Sized k (p + 1))
+  pub inside-sized : (m : Maybe) (k : ℕ) → c ≡ 93 → (n ≡ 0 → ⊥) → toOption m ≡ number longest (take (b + n - b) (drop b s)) → m ≡ Value k → InsideIs s b (bracket.Sized k (p + 1))
   unfolding toFound toOption
   inside-sized m k w z q f =
-      let g : plain longest (part s b n) ≡ some k = ap (plain longest) (sym part-is) ∙ sym q ∙ rw f in
+      let g : number longest (part s b n) ≡ some k = ap (number longest) (sym part-is) ∙ sym q ∙ rw f in
       inside-is (some (sized k)) (found tt (p + 1)) (bracket.Sized k (p + 1)) (number-of (some k) z g) (look-found s (b + n) p c rbracket v w) refl (omega (arith, v .low, v .inside, v .edge))
 
-  pub inside-wrong : (m : Maybe) → c ≡ 93 → (n ≡ 0 → ⊥) → toOption m ≡ plain longest (take (b + n - b) (drop b s)) → m ≡ Absent → InsideIs s b bracket.Missing
+  pub inside-wrong : (m : Maybe) → c ≡ 93 → (n ≡ 0 → ⊥) → toOption m ≡ number longest (take (b + n - b) (drop b s)) → m ≡ Absent → InsideIs s b bracket.Missing
   unfolding toFound toOption
   inside-wrong m w z q f =
-      let g : plain longest (part s b n) ≡ none = ap (plain longest) (sym part-is) ∙ sym q ∙ rw f in
+      let g : number longest (part s b n) ≡ none = ap (number longest) (sym part-is) ∙ sym q ∙ rw f in
       inside-is none (found tt (p + 1)) bracket.Missing (number-of none z g) (look-found s (b + n) p c rbracket v w) refl tt
 
   pub inside-open : (c ≡ 93 → ⊥) → InsideIs s b bracket.Missing
   unfolding toFound
-  inside-open w = inside-is (ofDigits (part s b n)) missing bracket.Missing refl (look-missing s (b + n) p c rbracket v w) (go (ofDigits (part s b n))) tt
+  inside-open w = inside-is (inside (part s b n)) missing bracket.Missing refl (look-missing s (b + n) p c rbracket v w) (go (inside (part s b n))) tt
     where
       go : (o : Option Suffix) → missing ≡ closed o missing
       go none = refl

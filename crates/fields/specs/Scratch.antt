@@ -11,8 +11,9 @@ use Rattle.kinds.specs.Kind.{Suffix, sized, unsized}
 use Rattle.model.specs.declared.Sort.{Sort}
 use Rattle.model.specs.Text.{span, one, part}
 use Rattle.model.specs.Tree.{Field, field, unmarked}
+use Rattle.model.specs.KindText.{inside}
 use Rattle.model.specs.Parser.{Ans, got, bad, deep, Found, found, missing, Parser, onAns, then, _>>=_, return, look, option, optionalName}
-use Rattle.model.specs.Reading.{FieldKind, runKind, ofDigits, closed, arraySuffix, suffixes, marks, fieldBy, closing, follow, rest, list, tupleKind, canSpecifyLocation}
+use Rattle.model.specs.Reading.{FieldKind, runKind, closed, arraySuffix, suffixes, marks, fieldBy, closing, follow, rest, list, tupleKind, canSpecifyLocation}
 use Rattle.model.specs.Record.{encodeBase, encodeSuffixes, encodeField, encodeFields}
 use Rattle.layout.specs.Buffer.{Wrote}
 use Rattle.value.specs.declared.Base.{Base}
@@ -64,7 +65,7 @@ pub record BracketIs (s : List ℕ) (at : ℕ) (r : Bracket) : Type 0 where
 
 -- behind the `[`
 pub record InsideIs (s : List ℕ) (b : ℕ) (r : Bracket) : Type 0 where
-  pub same : toFound r ≡ (let d = span (one isDigit) (drop b s) in closed (ofDigits (part s b d)) (look rbracket s (b + d)))
+  pub same : toFound r ≡ (let d = span (one isDigit) (drop b s) in closed (inside (part s b d)) (look rbracket s (b + d)))
   pub behind : Behind s b r
 
 -- what a reader that writes at o asks, where d more tuples may open: a place within a text of at most 4,096 bytes, and 10 bytes of room for each

@@ -196,7 +196,7 @@ fn in_brackets(s: &[u8], b: usize) -> Bracket
         if n == 0 {
             return Bracket::Unsized { next: v.at + 1 };
         }
-        let m = text::plain(18446744073709551615, &s[b..e]);
+        let m = text::number(18446744073709551615, &s[b..e]);
         return match m {
             Maybe::Value(n) => Bracket::Sized { n, next: v.at + 1 },
             Maybe::Absent => Bracket::Missing,

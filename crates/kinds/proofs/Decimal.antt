@@ -1,19 +1,19 @@
--- A number written in decimal is read back exactly where it keeps to the limit, for every number and every limit.
+-- A number written in decimal is read back exactly where it keeps to the limit, for every number and every limit; and nothing else is read as a number.
 -- Assumes nothing.
-use mathlib.Core.Path.{_≡_, refl}
+use mathlib.Core.Path.{_≡_, refl, sym, _∙_, ap}
 use mathlib.Core.Logic.{_↔_}
 use mathlib.Core.Bool.{Bool, true, false}
-use mathlib.Core.List.{List, [], _∷_, _++_}
+use mathlib.Core.List.{List, [], _∷_, _++_, append-nil, append-assoc}
 use mathlib.Core.Option.{Option, none, some}
 use Prim.Native.Nat.{ℕ, zero, suc, _+_, _*_, _-_, _/_, _%_, _^_, _≤_, _<_}
 use native.Mathlib.Omega.{arith}
 use native.Mathlib.Decide.{decLt}
 use lib.Dec.{leb, ltb}
 use lib.ListN.{length, length-append}
-use borrow.Author.Tests.{ltb-false, lt-ltb, le-ltb, leb-true, le-leb, lt-leb, ne-eqb}
-use Rattle.kinds.specs.Bytes.{plus, all, isDigit, isWordByte}
-use Rattle.kinds.specs.Decimal.{digits, decimal, value, unsigned, atMost, plain, afterPlus, number}
-use Rattle.kinds.proofs.Logic.{both, left, all-append, all-weaken, digit-word}
+use borrow.Author.Tests.{ltb-false, lt-ltb, le-ltb, leb-true, le-leb, lt-leb, ne-eqb, eqb-false}
+use Rattle.kinds.specs.Bytes.{all, isDigit, isWordByte}
+use Rattle.kinds.specs.Decimal.{digits, decimal, value, unsigned, atMost, plain, leadingZero, number}
+use Rattle.kinds.proofs.Logic.{both, left, right, all-append, all-weaken, digit-word}
 
 -- more digits asked for than there are change nothing
 digits-enough : (f g n : ℕ) → n < f → n < g → digits f n ≡ digits g n
@@ -88,6 +88,15 @@ decimal-short (suc (suc k)) n h p =
 pub decimal-word : (n : ℕ) → all isWordByte (decimal n) ≡ true
 decimal-word n = all-weaken isDigit isWordByte digit-word (decimal n) (decimal-digits n)
 
+-- no zero stands in front of more
+decimal-unzeroed : (n : ℕ) → leadingZero (decimal n) ≡ false
+decimal-unzeroed n = go (decimal n) refl
+  where
+    go : (t : List ℕ) → decimal n ≡ t → leadingZero t ≡ false
+    go [] e = refl
+    go (c ∷ []) e = refl
+    go (c ∷ d ∷ s) e = ne-eqb c 48 (λ q. let z : d ∷ s ≡ [] = no-leading-zero n (d ∷ s) (e ∙ rw q) .1 in let y : _≡_ {A = ℕ} 0 1 = cc in omega arith)
+
 -- what is read of a number as it is written, before a limit
 unsigned-digits : (c : ℕ) (s : List ℕ) → all isDigit (c ∷ s) ≡ true → unsigned (c ∷ s) ≡ some (value 0 (c ∷ s))
 unfolding unsigned
@@ -97,12 +106,6 @@ pub decimal-unsigned : (n : ℕ) → unsigned (decimal n) ≡ some n
 decimal-unsigned n =
     let (c, s, e) = decimal-cons n in
     cc (e, unsigned-digits c s (rw e at (decimal-digits n)), decimal-value n)
-
-digits-no-plus : (t : List ℕ) → all isDigit t ≡ true → afterPlus t ≡ t
-digits-no-plus [] h = refl
-digits-no-plus (c ∷ s) h =
-    let low : 48 ≤ c = leb-true 48 c (left _ (left _ h)) in
-    rw (ne-eqb c plus (λ e. omega arith), afterPlus)
 
 -- the limit
 under-limit : (m : ℕ) (o : Option ℕ) (n : ℕ) → atMost m o ≡ some n → n ≤ m
@@ -117,9 +120,17 @@ plain-bound : (m : ℕ) (t : List ℕ) (n : ℕ) → plain m t ≡ some n → n 
 unfolding plain
 plain-bound m t = under-limit m (unsigned t)
 
-pub number-bound : (m : ℕ) (t : List ℕ) (n : ℕ) → number m t ≡ some n → n ≤ m
+-- a number is digits, and no zero leads
+number-read : (m : ℕ) (t : List ℕ) (n : ℕ) → number m t ≡ some n → (leadingZero t ≡ false) × (plain m t ≡ some n)
 unfolding number
-number-bound m t = plain-bound m (afterPlus t)
+number-read m t n e = go (leadingZero t) refl
+  where
+    go : (b : Bool) → leadingZero t ≡ b → (leadingZero t ≡ false) × (plain m t ≡ some n)
+    go true q = let f : none ≡ some n = rw (number, q) at e in let z : _≡_ {A = ℕ} 0 1 = cc in absurd (omega arith)
+    go false q = (q, rw (number, q) at e)
+
+pub number-bound : (m : ℕ) (t : List ℕ) (n : ℕ) → number m t ≡ some n → n ≤ m
+number-bound m t n e = plain-bound m t n (number-read m t n e .1)
 
 pub written-read-plain : (m n : ℕ) → (plain m (decimal n) ≡ some n) ↔ (n ≤ m)
 unfolding plain
@@ -131,8 +142,63 @@ written-over-plain m n h = rw (decimal-unsigned n, lt-leb n m h, atMost)
 
 pub written-read : (m n : ℕ) → (number m (decimal n) ≡ some n) ↔ (n ≤ m)
 unfolding number
-written-read m n = rw (digits-no-plus (decimal n) (decimal-digits n)) (written-read-plain m n)
+written-read m n = rw (number, decimal-unzeroed n) (written-read-plain m n)
 
 pub written-over : (m n : ℕ) → m < n → number m (decimal n) ≡ none
 unfolding number
-written-over m n h = rw (digits-no-plus (decimal n) (decimal-digits n)) (written-over-plain m n h)
+written-over m n h = rw (number, decimal-unzeroed n) (written-over-plain m n h)
+
+-- The other half: what is read as a number is written so.
+
+digit-range : (c : ℕ) → isDigit c ≡ true → (48 ≤ c) × (c ≤ 57)
+digit-range c h = (leb-true 48 c (left _ h), leb-true c 57 (right (leb 48 c) h))
+
+one-digit : (c : ℕ) → isDigit c ≡ true → decimal (0 * 10 + (c - 48)) ≡ c ∷ []
+one-digit c h =
+    let (low, high) = digit-range c h in
+    let e : 48 + (0 * 10 + (c - 48)) ≡ c = omega arith in
+    decimal-one (0 * 10 + (c - 48)) (omega arith) ∙ ap (λ x. x ∷ []) e
+
+-- digits behind a number that is not 0 are the rest of its decimal
+more-digits : (s : List ℕ) (v : ℕ) → 0 < v → all isDigit s ≡ true → decimal v ++ s ≡ decimal (value v s)
+more-digits [] v p h = append-nil (decimal v)
+more-digits (c ∷ s) v p h =
+    let (low, high) = digit-range c (left _ h) in
+    let n = v * 10 + (c - 48) in
+    let q : n / 10 ≡ v = omega arith in
+    let r : 48 + n % 10 ≡ c = omega arith in
+    let e : decimal n ≡ decimal v ++ (c ∷ []) = decimal-more n (omega arith) ∙ rw (q, r) in
+    sym (append-assoc (decimal v) (c ∷ []) s) ∙ ap (λ x. x ++ s) (sym e) ∙ more-digits s n (omega arith) (right (isDigit c) h)
+
+-- digits without a leading zero are the decimal of their value
+digits-decimal : (c : ℕ) (s : List ℕ) → all isDigit (c ∷ s) ≡ true → leadingZero (c ∷ s) ≡ false → c ∷ s ≡ decimal (value 0 (c ∷ s))
+digits-decimal c [] h z = sym (one-digit c (left _ h))
+digits-decimal c (d ∷ s) h z =
+    let (low, high) = digit-range c (left _ h) in
+    let f : c ≡ 48 → ⊥ = eqb-false c 48 z in
+    sym (ap (λ x. x ++ (d ∷ s)) (one-digit c (left _ h))) ∙ more-digits (d ∷ s) (0 * 10 + (c - 48)) (omega arith) (right (isDigit c) h)
+
+-- the digits that stand for a number within a limit
+at-most-value : (m : ℕ) (o : Option ℕ) (n : ℕ) → atMost m o ≡ some n → o ≡ some n
+at-most-value m none n e = e
+at-most-value m (some k) n e = go (leb k m) refl
+  where
+    go : (b : Bool) → leb k m ≡ b → some k ≡ some n
+    go true l = rw (atMost, l) at e
+    go false l = let f : none ≡ some n = rw (atMost, l) at e in let z : _≡_ {A = ℕ} 0 1 = cc in absurd (omega arith)
+
+unsigned-value : (c : ℕ) (s : List ℕ) (n : ℕ) → unsigned (c ∷ s) ≡ some n → (all isDigit (c ∷ s) ≡ true) × (value 0 (c ∷ s) ≡ n)
+unfolding unsigned
+unsigned-value c s n e = go (all isDigit (c ∷ s)) refl
+  where
+    go : (b : Bool) → all isDigit (c ∷ s) ≡ b → (all isDigit (c ∷ s) ≡ true) × (value 0 (c ∷ s) ≡ n)
+    go true q = let f : some (value 0 (c ∷ s)) ≡ some n = rw (unsigned, q) at e in (q, cc)
+    go false q = let f : none ≡ some n = rw (unsigned, q) at e in let z : _≡_ {A = ℕ} 0 1 = cc in absurd (omega arith)
+
+pub number-exact : (m : ℕ) (t : List ℕ) (n : ℕ) → number m t ≡ some n → t ≡ decimal n
+unfolding plain unsigned
+number-exact m [] n e = let f : none ≡ some n = number-read m [] n e .1 in let z : _≡_ {A = ℕ} 0 1 = cc in absurd (omega arith)
+number-exact m (c ∷ s) n e =
+    let (z, p) = number-read m (c ∷ s) n e in
+    let (d, v) = unsigned-value c s n (at-most-value m (unsigned (c ∷ s)) n p) in
+    digits-decimal c s d z ∙ ap decimal v

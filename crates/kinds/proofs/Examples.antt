@@ -22,12 +22,12 @@ largest : decimal (2 ^ 64 - 1) ≡ ascii "18446744073709551615"
 unfolding decimal digits
 largest = refl
 
--- the numbers of a run take a sign and leading zeros, and a limit counts the value
-numbers : map (number 256) (ascii "256" ∷ ascii "257" ∷ ascii "+8" ∷ ascii "00008" ∷ ascii "" ∷ ascii "+" ∷ ascii "++8" ∷ ascii "-8" ∷ []) ≡ some 256 ∷ none ∷ some 8 ∷ some 8 ∷ none ∷ none ∷ none ∷ none ∷ []
+-- order 7: "no sign and no leading zero, `0` itself excepted"; and a limit counts the value
+numbers : map (number 256) (ascii "256" ∷ ascii "257" ∷ ascii "0" ∷ ascii "10" ∷ ascii "8" ∷ ascii "08" ∷ ascii "00" ∷ ascii "00008" ∷ ascii "+8" ∷ ascii "-8" ∷ ascii "+" ∷ ascii "" ∷ []) ≡ some 256 ∷ none ∷ some 0 ∷ some 10 ∷ some 8 ∷ none ∷ none ∷ none ∷ none ∷ none ∷ none ∷ none ∷ []
 unfolding number plain unsigned
 numbers = refl
 
--- a tuple's own suffix takes no sign
+-- of digits alone leading zeros do not count
 plain-numbers : map (plain 256) (ascii "8" ∷ ascii "008" ∷ ascii "+8" ∷ []) ≡ some 8 ∷ some 8 ∷ none ∷ []
 unfolding plain unsigned
 plain-numbers = refl

@@ -24,9 +24,6 @@ lparen = 40
 abbrev pub rparen : ℕ
 rparen = 41
 
-abbrev pub plus : ℕ
-plus = 43
-
 abbrev pub comma : ℕ
 comma = 44
 

@@ -1,11 +1,11 @@
 -- Numbers in texts: plain decimal as it is written, and numbers as they are read.
 -- Assumes nothing.
-use mathlib.Core.Bool.{true, false}
+use mathlib.Core.Bool.{Bool, true, false}
 use mathlib.Core.List.{List, [], _∷_, _++_}
 use mathlib.Core.Option.{Option, none, some}
 use Prim.Native.Nat.{ℕ, zero, suc, _+_, _*_, _-_, _/_, _%_}
 use lib.Dec.{leb, ltb, eqb}
-use Rattle.kinds.specs.Bytes.{plus, all, isDigit}
+use Rattle.kinds.specs.Bytes.{all, isDigit}
 
 -- the last f digits of n, with no digit 0 in front
 unfoldable pub digits : ℕ → ℕ → List ℕ
@@ -31,15 +31,16 @@ abbrev pub atMost : ℕ → Option ℕ → Option ℕ
 atMost m none = none
 atMost m (some n) = elim (leb n m) [ true ↦ some n | false ↦ none ]
 
--- digits alone, as a tuple's own suffix has them, with a value of at most m; leading zeros do not count
+-- digits alone, with a value of at most m; leading zeros do not count
 unfoldable pub plain : ℕ → List ℕ → Option ℕ
 plain m t = atMost m (unsigned t)
 
--- "an optional `+`"
-abbrev pub afterPlus : List ℕ → List ℕ
-afterPlus [] = []
-afterPlus (c ∷ s) = elim (eqb c plus) [ true ↦ s | false ↦ c ∷ s ]
+-- whether a `0` stands in front of more
+abbrev pub leadingZero : List ℕ → Bool
+leadingZero [] = false
+leadingZero (c ∷ []) = false
+leadingZero (c ∷ d ∷ s) = eqb c 48
 
--- "A number is an optional `+` and at least one digit", with a value of at most m
+-- Order 7: "A number now has no sign and no leading zero, `0` itself excepted". Its value is at most m
 unfoldable pub number : ℕ → List ℕ → Option ℕ
-number m t = plain m (afterPlus t)
+number m t = elim (leadingZero t) [ true ↦ none | false ↦ plain m t ]

@@ -10,14 +10,15 @@ use lib.Dec.{leb, eqb}
 use lib.ListN.{length, take, drop, length-append, length-take}
 use borrow.Author.Tests.{leb-true, le-leb}
 use Rattle.kinds.specs.Bytes.{ascii, lbracket, rbracket, all, same}
-use Rattle.kinds.specs.Decimal.{plain, number, unsigned, afterPlus, atMost}
+use Rattle.kinds.specs.Decimal.{number}
 use Rattle.kinds.specs.Kind.{BitWidth, bits, octets, isBitWidth, isByteLength, isElementary, Elementary, int, uint, fixedBytes, address, bool, bytes, string, Suffix, sized, unsized}
 use Rattle.kinds.proofs.Logic.{both, left, right, all-append, same-equal}
+use Rattle.kinds.proofs.Decimal.{decimal-cons}
 use Rattle.model.specs.Tree.{Base, field}
-use Rattle.model.specs.KindText.{Result, ok, err, onResult, Entry, entry, lookup, kindWords, Cut, cut, uncut, cutAfter, cutLast, stripStep, strip, longest, sizedBy, inside, shut, Peeled, peeled, bare, peelBy, peelAt, peel, starts, width, byteLength, withNumber, Spelled, addSuffix, unsuffixed, fromStrBy, fromStrIn, fromStr}
-use Rattle.model.specs.Reading.{ofDigits}
+use Rattle.model.specs.KindText.{Result, ok, err, onResult, Entry, entry, lookup, kindWords, Cut, cut, uncut, cutAfter, cutLast, stripStep, strip, inside, shut, Peeled, peeled, bare, peelBy, peelAt, peel, starts, width, byteLength, withNumber, Spelled, addSuffix, unsuffixed, fromStrBy, fromStrIn, fromStr}
 use Rattle.model.specs.Layout.{littleEndian, recordOf}
 use Rattle.model.specs.Record.{encodeElementary, encodeSuffix, encodeSuffixes, encodeName, encodeBase, encodeField, isSuffix}
+use Rattle.model.proofs.InBrackets.{inner, inside-exactly}
 
 -- what is chosen by a test, by whether it passes
 pub tested : {A : Type 0} (P : A → Type 0) (b : Bool) {x y : A} → (b ≡ true → P x) → (b ≡ false → P y) → P (elim b [ true ↦ x | false ↦ y ])
@@ -80,24 +81,19 @@ pub record Inside (m : List ℕ) (o : Suffix) : Type 0 where
   pub valid : isSuffix o ≡ true
   pub paid : length (encodeSuffix 4 o) ≤ 6 + 10 * length m
 
-nothing-inside : Inside [] unsized
+inner-paid : (o : Suffix) → length (encodeSuffix 4 o) ≤ 6 + 10 * length (inner o)
 unfolding encodeSuffix recordOf littleEndian
-nothing-inside = record { valid = refl; paid = omega arith }
+inner-paid (sized n) = omega (arith, ap length (decimal-cons n .2))
+inner-paid unsized = omega arith
 
-sized-inside : (c : ℕ) (m : List ℕ) (o : Option ℕ) → In (Inside (c ∷ m)) (sizedBy (atMost longest o))
-unfolding encodeSuffix recordOf littleEndian
-sized-inside c m none = tt
-sized-inside c m (some n) = tested (λ o. In (Inside (c ∷ m)) (sizedBy o)) (leb n longest) (λ e. record { valid = e; paid = omega arith }) (λ e. tt)
-
-pub digits-inside : (m : List ℕ) → In (Inside m) (ofDigits m)
-unfolding plain
-digits-inside [] = nothing-inside
-digits-inside (c ∷ m) = sized-inside c m (unsigned (c ∷ m))
-
-inside-of : (m : List ℕ) → In (Inside m) (inside m)
-unfolding inside number plain
-inside-of [] = nothing-inside
-inside-of (c ∷ m) = sized-inside c m (unsigned (afterPlus (c ∷ m)))
+pub inside-of : (m : List ℕ) → In (Inside m) (inside m)
+inside-of m = go (inside m) refl
+  where
+    go : (x : Option Suffix) → inside m ≡ x → In (Inside m) x
+    go none e = tt
+    go (some o) e =
+        let (w, h) = inside-exactly m o .0 e in
+        record { valid = h; paid = rw w (inner-paid o) }
 
 -- Suffixes taken off from the right.
 

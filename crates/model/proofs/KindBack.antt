@@ -8,27 +8,18 @@ use Prim.Native.Nat.{ℕ, _≤_}
 use native.Mathlib.Omega.{arith}
 use lib.Dec.{eqb}
 use lib.ListN.{length, length-append}
-use borrow.Author.Tests.{ne-eqb, leb-true, le-leb, lt-ltb, not-true}
+use borrow.Author.Tests.{ne-eqb, le-leb, lt-ltb, not-true}
 use Rattle.kinds.specs.Bytes.{comma, rparen, lbracket, rbracket, all, same, isAscii, isDigit, isWordByte, isWord}
 use Rattle.kinds.specs.Decimal.{decimal, number}
 use Rattle.kinds.specs.Kind.{bits, octets, isBitWidth, isElementary, Elementary, int, uint, fixedBytes, address, bool, function, bytes, string, Suffix, sized, unsized, elementaryText, suffixText}
 use Rattle.kinds.proofs.Logic.{both, left, right, all-append, all-weaken, digit-word, word-all}
 use Rattle.kinds.proofs.Decimal.{decimal-digits, decimal-word, decimal-cons, written-read}
-use Rattle.model.specs.KindText.{ok, elementaryOf, lookup, uncut, cutLast, longest, inside, peeled, bare, peel, width, byteLength, withNumber, fromStr}
+use Rattle.model.specs.KindText.{ok, elementaryOf, lookup, uncut, cutLast, peeled, bare, peel, width, byteLength, withNumber, fromStr}
 use Rattle.model.specs.Record.{isSuffix}
 use Rattle.model.specs.Written.{suffixesText, SpellsElementary, itself, shortInt, shortUint}
+use Rattle.model.proofs.InBrackets.{inner, suffix-inner, inside-inner}
 use Rattle.model.proofs.Suffixes.{cut-here, strip-same, from-str-peeled, from-str-bare}
 use Rattle.model.proofs.Scans.{between-both, word-range, isRunByte}
-
--- what stands between a suffix's brackets
-abbrev pub inner : Suffix → List ℕ
-inner (sized n) = decimal n
-inner unsized = []
-
-pub suffix-inner : (o : Suffix) → suffixText o ≡ lbracket ∷ (inner o ++ (rbracket ∷ []))
-unfolding suffixText
-suffix-inner (sized n) = refl
-suffix-inner unsized = refl
 
 pub inner-digits : (o : Suffix) → all isDigit (inner o) ≡ true
 inner-digits (sized n) = decimal-digits n
@@ -42,13 +33,6 @@ pub suffixes-long : (ss : List Suffix) → length ss ≤ length (suffixesText ss
 unfolding suffixesText
 suffixes-long [] = omega arith
 suffixes-long (o ∷ ss) = omega (arith, suffixes-long ss, length-append (suffixText o) (suffixesText ss), ap length (suffix-inner o))
-
-inside-inner : (o : Suffix) → isSuffix o ≡ true → inside (inner o) ≡ some o
-unfolding inside
-inside-inner unsized h = refl
-inside-inner (sized n) h =
-    let (c, s, e) = decimal-cons n in
-    rw (e, ← e, written-read longest n .1 (leb-true n longest h))
 
 -- the last `[`
 abbrev noOpen : ℕ → Bool

@@ -3,6 +3,7 @@ pub mod Evaluation
 pub mod Edges
 pub mod Worked
 pub mod Holds
+pub mod InBrackets
 pub mod Bounds
 pub mod Marks
 pub mod Readers
@@ -16,8 +17,8 @@ pub mod KindBack
 pub mod Readback
 pub mod Tuples
 pub mod Spelling
+pub mod Exact
 pub mod Bare
-pub mod Loose
 pub mod Lengths
 pub mod Modifiers
 pub mod Lines

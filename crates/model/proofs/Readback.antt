@@ -9,25 +9,25 @@ use native.Mathlib.Omega.{arith}
 use lib.Dec.{eqb}
 use lib.ListN.{length, drop, length-append, length-drop}
 use lib.Seq.{take-append-seam}
-use borrow.Author.Tests.{ne-eqb, eqb-true, leb-true}
+use borrow.Author.Tests.{ne-eqb, eqb-true}
 use Rattle.kinds.specs.Bytes.{space, comma, lparen, rparen, lbracket, rbracket, all, isDigit, isLetter, isWordByte, isWord}
-use Rattle.kinds.specs.Kind.{isElementary, Elementary, Suffix, sized, unsized, suffixText}
+use Rattle.kinds.specs.Kind.{isElementary, Elementary, Suffix, suffixText}
 use Rattle.kinds.proofs.Logic.{left, right, letter-word}
-use Rattle.kinds.proofs.Decimal.{decimal-cons, written-read-plain}
 use Rattle.model.specs.declared.Refusal.the-variants.{ExpectClose, Unknown}
 use Rattle.model.specs.declared.Sort.{Sort}
 use Rattle.model.specs.declared.Sort.the-variants.{Plain}
 use Rattle.model.specs.Text.{span, one, blank, skip, runByte}
 use Rattle.model.specs.Tree.{Base, elementary, tuple, Field, field, Fields, noField, moreFields, unmarked}
-use Rattle.model.specs.KindText.{Entry, lookup, longest, cutLast, peel, withNumber, fromStrIn, fromStr}
+use Rattle.model.specs.KindText.{Entry, lookup, cutLast, peel, withNumber, fromStrIn, fromStr}
 use Rattle.model.specs.Parser.{found, missing, got, bad, Parser, onAns, then, look, option, optionalName}
-use Rattle.model.specs.Reading.{FieldKind, ofRun, runKind, ofDigits, arraySuffix, suffixesIn, suffixes, fieldKind, canSpecifyLocation, marksBy, marks, fieldBy, closing, follow, rest, list, tupleKind}
+use Rattle.model.specs.Reading.{FieldKind, ofRun, runKind, arraySuffix, suffixesIn, suffixes, fieldKind, canSpecifyLocation, marksBy, marks, fieldBy, closing, follow, rest, list, tupleKind}
 use Rattle.model.specs.Record.{isFieldName, isAbsent, hasMark, isSuffix, isMark, isBase, isField, areFields}
 use Rattle.model.specs.Written.{suffixesText, nameText, markWord, markText, writtenBase, writtenField, writtenList, writtenRest, SpellsElementary, itself}
 use Rattle.model.proofs.Scans.{stands-past, span-none, span-bytes, peek-byte, skip-none, blank-space, blank-plain, blank-word, isRunByte, run-written}
 use Rattle.model.proofs.Marks.{either, mark-worded, mark-found, mark-named}
 use Rattle.model.proofs.Stands.{isQuiet, quiet, Reads, reads-then, reads-on, reads-return, reads-char, look-here, look-absent, look-spaced, word-spaced, reads-name, option-there, option-absent}
-use Rattle.model.proofs.KindBack.{inner, suffix-inner, inner-digits, suffixes-long, spelled-suffixes, spelled-word, spelled-run}
+use Rattle.model.proofs.InBrackets.{inner, suffix-inner, inside-inner}
+use Rattle.model.proofs.KindBack.{inner-digits, suffixes-long, spelled-suffixes, spelled-word, spelled-run}
 
 -- `,` or `)`, and anything behind; or the end of the text
 abbrev pub isEnd : List ℕ → Bool
@@ -75,12 +75,6 @@ reads-mark sort l m nm r h n i =
 
 -- Suffixes of a tuple.
 
-of-digits : (o : Suffix) → isSuffix o ≡ true → ofDigits (inner o) ≡ some o
-of-digits unsized h = refl
-of-digits (sized n) h =
-    let (c, s, e) = decimal-cons n in
-    rw (e, ← e, written-read-plain longest n .1 (leb-true n longest h))
-
 digits-stand : (t r : List ℕ) → all isDigit t ≡ true → span (one isDigit) (t ++ (rbracket ∷ r)) ≡ length t
 digits-stand t r h =
     omega (arith, span-bytes (one isDigit) isDigit (λ c u q. rw (one, q)) t (rbracket ∷ r) h, span-none (one isDigit) (rbracket ∷ r) refl)
@@ -94,7 +88,7 @@ suffix-there o h r s at e =
     let b : drop (at + 1) s ≡ t = stands-past s at (lbracket ∷ []) t a in
     let c : drop (at + 1 + n) s ≡ rbracket ∷ r = stands-past s (at + 1) (inner o) (rbracket ∷ r) b in
     let d : span (one isDigit) t ≡ n = digits-stand (inner o) r (inner-digits o) in
-    rw (arraySuffix, look-here lbracket s at t refl a, b, d, take-append-seam (inner o) (rbracket ∷ r), of-digits o h, look-here rbracket s (at + 1 + n) r refl c)
+    rw (arraySuffix, look-here lbracket s at t refl a, b, d, take-append-seam (inner o) (rbracket ∷ r), inside-inner o h, look-here rbracket s (at + 1 + n) r refl c)
     (ap (found o) (rw (suffix-inner o, length-append (inner o) (rbracket ∷ [])) (omega arith)))
 
 -- what stands behind a kind: it ends a run, and opens no suffix

@@ -19,14 +19,14 @@ use Rattle.model.specs.declared.Sort.{Sort}
 use Rattle.model.specs.declared.Sort.the-variants.{Plain, Parameter}
 use Rattle.model.specs.Text.{spanFrom, span, one, skip, peek, wordLength, runByte, runLength, part}
 use Rattle.model.specs.Tree.{tuple, Field, field, Fields, noField, moreFields, unmarked, notStated}
-use Rattle.model.specs.KindText.{Result, ok, err, Entry, entry, lookup, Spelled, fromStr}
+use Rattle.model.specs.KindText.{Result, ok, err, Entry, entry, lookup, inside, Spelled, fromStr}
 use Rattle.model.specs.Parser.{Found, Ans, Parser, orElse, look, whyNot, takeChar, word, wordEnd, foundBy, keywordOf, isIdent, lookIdent, ident, keyword, option, optionalName, end}
-use Rattle.model.specs.Reading.{FieldKind, ofRun, runKind, ofDigits, closed, opened, arraySuffix, suffixesBy, suffixesIn, suffixes, fieldKind, marks, fieldBy, closing, follow, restBy, rest, list, tupleKind, deepest, fields, mutabilities, visibilities, visibility, visibilityUnless, modifiers, returnsBy, returns}
+use Rattle.model.specs.Reading.{FieldKind, ofRun, runKind, closed, opened, arraySuffix, suffixesBy, suffixesIn, suffixes, fieldKind, marks, fieldBy, closing, follow, restBy, rest, list, tupleKind, deepest, fields, mutabilities, visibilities, visibility, visibilityUnless, modifiers, returnsBy, returns}
 use Rattle.model.specs.Record.{encodeSuffix, encodeSuffixes, encodeBase, encodeField, encodeFields, isFieldName, isSuffix, hasMark, isMark, isBase, isField, areFields, areInputs}
 use Rattle.model.proofs.Scans.{span-le, peek-inside, skip-le, skip-within}
 use Rattle.model.proofs.Holds.{Of, reads, refuses, opens, Seen, sees, misses, Finds, Read, Any, OneChar, then-of, on-of, as-of, require-of, or-of, read, gives, finds}
 use Rattle.model.proofs.Marks.{lookup-has}
-use Rattle.model.proofs.Bounds.{tested, In, Right, Entries, lookup-of, Inside, digits-inside, Spells, spelled, record-size, field-size}
+use Rattle.model.proofs.Bounds.{tested, In, Right, Entries, lookup-of, Inside, inside-of, Spells, spelled, record-size, field-size}
 
 -- laws of scanning
 
@@ -166,7 +166,7 @@ module _ (s : List ℕ) where
           let d = span (one isDigit) (drop n s) in
           let l = span-le (one isDigit) (drop n s) in
           let m = part s n d in
-          close m (ofDigits m) (omega (arith, length-take-le d (drop n s) l)) (digits-inside m) (look-of s rbracket (n + d) (lit< tt) (omega (arith, l, length-drop n s)))
+          close m (inside m) (omega (arith, length-take-le d (drop n s) l)) (inside-of m) (look-of s rbracket (n + d) (lit< tt) (omega (arith, l, length-drop n s)))
 
   suffixes-in : (k at : ℕ) → at ≤ length s → Of s (Suffixes s at) (suffixesIn k s at)
   unfolding suffixesIn encodeSuffixes

@@ -28,7 +28,7 @@ use Rattle.model.proofs.Tuples.{uncrowded, all-bare}
 -- Fields without marks and names.
 
 -- those of kinds have those kinds
-arrays-last : (ss : List Suffix) (k : Kind) (s : Suffix) → arrays k (ss ++ (s ∷ [])) ≡ Kind.array (arrays k ss) s
+pub arrays-last : (ss : List Suffix) (k : Kind) (s : Suffix) → arrays k (ss ++ (s ∷ [])) ≡ Kind.array (arrays k ss) s
 unfolding arrays
 arrays-last [] k s = refl
 arrays-last (o ∷ ss) k s = arrays-last ss (Kind.array k o) s

@@ -17,7 +17,8 @@ use Rattle.model.specs.Calls.{crowded, closes, isBare}
 use Rattle.model.specs.Written.{SpellsKind, SpellsList, SpellsRest, fits, allFit}
 use Rattle.model.proofs.Scans.{blank-plain, word-range}
 use Rattle.model.proofs.Stands.{first}
-use Rattle.model.proofs.KindBack.{inner, suffix-inner, inner-word, spelled-word}
+use Rattle.model.proofs.InBrackets.{inner, suffix-inner}
+use Rattle.model.proofs.KindBack.{inner-word, spelled-word}
 
 -- Tuples that open.
 

@@ -144,9 +144,8 @@ other-places : Refused7 "function f() external returns (uint) public" 37 × Refu
 unfolding evaluation
 other-places = (refl, refl, refl, refl, refl, refl, refl)
 
--- Order 3: a tuple in the kind call. Its components are kinds that the kind call reads, with `+` and zeros where these stand there; its own suffix
--- has digits only
-tuple-kind : (readKind (ascii "()") ≡ got (field 0 [] (tuple noField) []) 0) × (readKind (ascii "(uint[+2],())[02][]") ≡ got (field 0 [] (tuple (moreFields (field 0 [] (elementary (uint (bits 256))) (sized 2 ∷ [])) (moreFields (field 0 [] (tuple noField) []) noField))) (sized 2 ∷ unsized ∷ [])) 0)
+-- Order 3: a tuple in the kind call. Its components are kinds that the kind call reads
+tuple-kind : (readKind (ascii "()") ≡ got (field 0 [] (tuple noField) []) 0) × (readKind (ascii "(uint[2],())[2][]") ≡ got (field 0 [] (tuple (moreFields (field 0 [] (elementary (uint (bits 256))) (sized 2 ∷ [])) (moreFields (field 0 [] (tuple noField) []) noField))) (sized 2 ∷ unsized ∷ [])) 0)
 unfolding evaluation
 tuple-kind = (refl, refl)
 
@@ -182,3 +181,25 @@ full-functions = (refl, refl, refl, refl)
 full-others : FullLine "constructor ( ) payable ;" "constructor() payable" × FullLine "event e(uint a, (uint indexed, string memory) indexed t) anonymous" "event e(uint256 a,(uint256 indexed,string memory) indexed t) anonymous" × FullLine "error e(() [2 ] a, bytes)" "error e(()[2] a,bytes)"
 unfolding evaluation
 full-others = (refl, refl, refl)
+
+-- Order 7: "A number now has no sign and no leading zero, `0` itself excepted". A kind text "gets the number that its form gets today for a letter in
+-- that place"
+abbrev Refused : String → ℕ → Type 0
+Refused t w = outcome 1000 (kindOutput (ascii t)) ≡ refused w 0
+
+no-plain-number : Refused "uint08" 11 × Refused "uint[+2]" 11 × Refused "uint[2][02]" 11 × Refused "bytes01" 12 × Refused "bytes[00]" 12 × Refused "bool[02]" 13 × Refused "(uint08)" 13 × Refused "(uint)[2][03]" 13
+unfolding evaluation
+no-plain-number = (refl, refl, refl, refl, refl, refl, refl, refl)
+
+-- `0` itself is read, and `10`
+zero-itself : (readKind (ascii "bool[0]") ≡ got (field 0 [] (elementary bool) (sized 0 ∷ [])) 0) × (readKind (ascii "()[10]") ≡ got (field 0 [] (tuple noField) (sized 10 ∷ [])) 0)
+unfolding evaluation
+zero-itself = (refl, refl)
+
+-- in a list the missing `)` stands where the field, or the tuple's suffix, would begin
+abbrev Refused3 : String → ℕ → Type 0
+Refused3 t p = outcome 1000 (readOutput call.General (ascii t)) ≡ refused 3 p
+
+listed-number : Refused3 "function f(uint08)" 11 × Refused3 "function f(bool,uint08)" 15 × Refused3 "error e(bytes+1)" 8 × Refused3 "function f((uint)[02])" 17 × Refused3 "function f((uint)[2][03])" 20 × Refused3 "function f(((uint)[02]))" 11
+unfolding evaluation
+listed-number = (refl, refl, refl, refl, refl, refl)

@@ -69,7 +69,7 @@ strip d (c ∷ s) = stripStep d c s (strip d s)
 abbrev pub longest : ℕ
 longest = 2 ^ 64 - 1
 
--- what stands between `[` and `]`: nothing, or a number
+-- what stands between `[` and `]`, "a tuple's suffix included": nothing, or a number
 abbrev pub sizedBy : Option ℕ → Option Suffix
 sizedBy none = none
 sizedBy (some n) = some (sized n)

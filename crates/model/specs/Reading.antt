@@ -7,8 +7,7 @@ use Prim.Native.Nat.{ℕ, zero, suc, _+_}
 use lib.Dec.{ltb, eqb}
 use lib.ListN.{length, drop}
 use Rattle.kinds.specs.Bytes.{ascii, comma, lparen, rparen, lbracket, rbracket, isDigit}
-use Rattle.kinds.specs.Decimal.{plain}
-use Rattle.kinds.specs.Kind.{Elementary, int, uint, fixedBytes, address, bool, bytes, string, Suffix, unsized}
+use Rattle.kinds.specs.Kind.{Elementary, int, uint, fixedBytes, address, bool, bytes, string, Suffix}
 use Rattle.model.specs.declared.Refusal.the-variants.{ExpectOpen, ExpectClose, ExpectDeclaration, TooLong, NotUtf8}
 use Rattle.model.specs.declared.Keyword.{Keyword}
 use Rattle.model.specs.declared.Keyword.the-variants as key
@@ -18,7 +17,7 @@ use Rattle.model.specs.declared.Sort.{Sort}
 use Rattle.model.specs.declared.Sort.the-variants.{Plain, Parameter, Event}
 use Rattle.model.specs.Text.{span, one, skip, peek, runLength, part, validLength}
 use Rattle.model.specs.Tree.{Base, elementary, tuple, Field, field, Fields, noField, moreFields, unmarked, indexed, inCalldata, inMemory, isPure, isView, notStated, isPayable, Declaration}
-use Rattle.model.specs.KindText.{Result, ok, err, Entry, entry, longest, sizedBy, starts, Spelled, fromStr}
+use Rattle.model.specs.KindText.{Result, ok, err, Entry, entry, inside, starts, Spelled, fromStr}
 use Rattle.model.specs.Parser.{Found, found, missing, Ans, got, bad, deep, Parser, onAns, then, _>>=_, _>>_, return, look, takeChar, keywordOf, ident, keyword, option, optionalName, end}
 
 -- a field's kind: its base, and its suffixes, innermost first
@@ -35,11 +34,6 @@ unfoldable pub runKind : Parser FieldKind
 runKind s p = let n = runLength (drop p s) in
     ofRun (fromStr (part s p n)) p (p + n)
 
--- "`[`, digits at once or none, `]`": a number over the longest leaves the suffix unread
-abbrev pub ofDigits : List ℕ → Option Suffix
-ofDigits [] = some unsized
-ofDigits (c ∷ t) = sizedBy (plain longest (c ∷ t))
-
 abbrev pub closed : Option Suffix → Found (Unit {0}) → Found Suffix
 closed none r = missing
 closed (some o) missing = missing
@@ -48,9 +42,9 @@ closed (some o) (found _ n) = found o n
 abbrev pub opened : List ℕ → Found (Unit {0}) → Found Suffix
 opened s missing = missing
 opened s (found _ n) = let d = span (one isDigit) (drop n s) in
-    closed (ofDigits (part s n d)) (look rbracket s (n + d))
+    closed (inside (part s n d)) (look rbracket s (n + d))
 
--- `array_suffix`
+-- `array_suffix`: "`[`, digits at once or none, `]`". Digits that are no number, or one over the longest, leave the suffix unread
 unfoldable pub arraySuffix : List ℕ → ℕ → Found Suffix
 arraySuffix s at = opened s (look lbracket s at)
 

@@ -4,9 +4,8 @@ use mathlib.Core.Path.{_≡_}
 use mathlib.Core.Bool.{Bool, true, false, _&&_}
 use mathlib.Core.List.{List, [], _∷_, _++_}
 use Prim.Native.Nat.{ℕ, zero, suc}
-use Rattle.kinds.specs.Bytes.{ascii, space, comma, lparen, rparen, plus}
-use Rattle.kinds.specs.Decimal.{decimal}
-use Rattle.kinds.specs.Kind.{bits, octets, Elementary, int, uint, fixedBytes, Suffix, Kind, Kinds, noKind, moreKinds, elementaryText, suffixText}
+use Rattle.kinds.specs.Bytes.{ascii, space, comma, lparen, rparen}
+use Rattle.kinds.specs.Kind.{bits, Elementary, int, uint, Suffix, Kind, Kinds, noKind, moreKinds, elementaryText, suffixText}
 use Rattle.model.specs.Tree.{Base, elementary, tuple, Field, field, Fields, noField, moreFields}
 use Rattle.model.specs.KindText.{Entry, entry}
 use Rattle.model.specs.Reading.{locations, attributes}
@@ -60,22 +59,6 @@ pub data SpellsElementary : Elementary → List ℕ → Type 0 where
   itself : (e : Elementary) → SpellsElementary e (elementaryText e)
   shortInt : SpellsElementary (int (bits 256)) (ascii "int")
   shortUint : SpellsElementary (uint (bits 256)) (ascii "uint")
-
--- "A number is an optional `+` and at least one digit", leading zeros among them: the spellings of a number in a run
-abbrev pub zeros : ℕ → List ℕ
-zeros zero = []
-zeros (suc k) = 48 ∷ zeros k
-
-pub data SpellsNumber : ℕ → List ℕ → Type 0 where
-  unsigned : (k n : ℕ) → SpellsNumber n (zeros k ++ decimal n)
-  signed : (k n : ℕ) → SpellsNumber n (plus ∷ (zeros k ++ decimal n))
-
--- the spellings of an elementary kind in a run: the specification's, and a word with a number spelled so
-pub data SpellsLoosely : Elementary → List ℕ → Type 0 where
-  strictly : (e : Elementary) (t : List ℕ) → SpellsElementary e t → SpellsLoosely e t
-  looseInt : (n : ℕ) (u : List ℕ) → SpellsNumber n u → SpellsLoosely (int (bits n)) (ascii "int" ++ u)
-  looseUint : (n : ℕ) (u : List ℕ) → SpellsNumber n u → SpellsLoosely (uint (bits n)) (ascii "uint" ++ u)
-  looseBytes : (n : ℕ) (u : List ℕ) → SpellsNumber n u → SpellsLoosely (fixedBytes (octets n)) (ascii "bytes" ++ u)
 
 -- a text is a spelling of a kind
 abbrev mutual

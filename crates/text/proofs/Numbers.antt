@@ -8,12 +8,11 @@ use Prim.Native.Nat.{ℕ, _+_, _*_, _-_, _/_, _≤_, _<_}
 use native.Mathlib.Omega.{arith}
 use native.Mathlib.Numerals.{add-one}
 use lib.Dec.{leb}
-use lib.ListN.{length, take, drop, getD, drop-of-length-le}
+use lib.ListN.{length, drop, getD, drop-of-length-le}
 use lib.Seq.{drop-cons}
-use borrow.Author.Tests.{le-leb, lt-leb, leb-true, leb-false, lt-ltb, ne-eqb}
+use borrow.Author.Tests.{le-leb, lt-leb, leb-true, leb-false, lt-ltb, eq-eqb, ne-eqb}
 use Rattle.kinds.specs.Bytes.{all, isDigit}
-use Rattle.kinds.specs.Decimal.{value, unsigned, atMost, plain, afterPlus, number}
-use Rattle.model.proofs.Scans.{part-rest}
+use Rattle.kinds.specs.Decimal.{value, unsigned, atMost, plain, number}
 use Rattle.text.specs.declared.Maybe.{Maybe}
 use Rattle.text.specs.declared.Maybe.the-variants.{Value, Absent}
 use Rattle.text.specs.Found.{toOption, Pushed, DigitIs}
@@ -119,20 +118,23 @@ module _ (m : ℕ) (t : List ℕ) (n : Maybe) (i : ℕ) (z : length t ≡ 0 → 
       let v : s .x ≡ value 0 t = rw (drop-of-length-le t h) at (s .rest) in
       s .now-is ∙ rw v (sym (plain-by m t true z a))
 
--- the sign
-pub number-empty : (m : ℕ) (t : List ℕ) → length t ≡ 0 → toOption Absent ≡ number m t
-unfolding number plain unsigned toOption
-number-empty m [] h = refl
-number-empty m (c ∷ t) h = absurd (omega arith)
-
-pub number-sign : (m : ℕ) (t : List ℕ) (r : Maybe) → (length t ≡ 0 → ⊥) → getD t 0 0 ≡ 43 → toOption r ≡ plain m (take (length t - 1) (drop 1 t)) → toOption r ≡ number m t
+-- zeros in front of more
+pub number-short : (m : ℕ) (t : List ℕ) (r : Maybe) → length t < 2 → toOption r ≡ plain m t → toOption r ≡ number m t
 unfolding number
-number-sign m [] r h e q = absurd (h refl)
-number-sign m (c ∷ t) r h e q = (rw part-rest at q) ∙ rw (afterPlus, e)
+number-short m [] r h q = q
+number-short m (c ∷ []) r h q = q
+number-short m (c ∷ d ∷ t) r h q = absurd (omega arith)
 
-pub number-plain : (m : ℕ) (t : List ℕ) (r : Maybe) → (length t ≡ 0 → ⊥) → (getD t 0 0 ≡ 43 → ⊥) → toOption r ≡ plain m t → toOption r ≡ number m t
+pub number-zero : (m : ℕ) (t : List ℕ) → 2 ≤ length t → getD t 0 0 ≡ 48 → toOption Absent ≡ number m t
+unfolding number toOption
+number-zero m [] h e = absurd (omega arith)
+number-zero m (c ∷ []) h e = absurd (omega arith)
+number-zero m (c ∷ d ∷ t) h e = rw (number, eq-eqb c 48 e)
+
+pub number-plain : (m : ℕ) (t : List ℕ) (r : Maybe) → 2 ≤ length t → (getD t 0 0 ≡ 48 → ⊥) → toOption r ≡ plain m t → toOption r ≡ number m t
 unfolding number
-number-plain m [] r h e q = absurd (h refl)
-number-plain m (c ∷ t) r h e q = q ∙ rw (afterPlus, ne-eqb c 43 e)
+number-plain m [] r h e q = absurd (omega arith)
+number-plain m (c ∷ []) r h e q = absurd (omega arith)
+number-plain m (c ∷ d ∷ t) r h e q = q ∙ rw (number, ne-eqb c 48 e)
 
-pub ruleset numbers = (push-digit, push-over, push-value, push-absent, digit-below, digit-above, digit-value, digits-start, plain-empty, digits-wrong, digits-more, digits-end, number-sign, number-plain, number-empty)
+pub ruleset numbers = (push-digit, push-over, push-value, push-absent, digit-below, digit-above, digit-value, digits-start, plain-empty, digits-wrong, digits-more, digits-end)

@@ -532,15 +532,15 @@ pub fn plain(limit: u64, t: &[u8]) -> Maybe
     n
 }
 
-// An optional `+` and digits.
+// A number in plain decimal, with a value of at most the limit: no sign, and no `0` in front of more.
 pub fn number(limit: u64, t: &[u8]) -> Maybe
     ensures { λ r. ⌜ toOption r ≡ number limit (now (t .entry)) ⌝ }
 {
-    if t.len() == 0 {
-        return Maybe::Absent;
+    if t.len() < 2 {
+        return plain(limit, t);
     }
-    if t[0] == 43 {
-        return plain(limit, &t[1..]);
+    if t[0] == b'0' {
+        return Maybe::Absent;
     }
     plain(limit, t)
 }

@@ -1,26 +1,27 @@
 -- Suffixes written, from the base outwards.
 -- Assumes nothing.
 use mathlib.Core.Path.{_≡_, refl, sym, _∙_, ap, ap₂, subst}
-use mathlib.Core.Bool.{Bool, true, false}
+use mathlib.Core.Bool.{true}
 use mathlib.Core.List.{List, [], _∷_, _++_, append-assoc, append-nil}
 use mathlib.Core.Option.{Option, none, some}
 use Prim.Native.Nat.{ℕ, suc, _+_, _-_, _≤_, _<_}
 use native.Mathlib.Omega.{arith}
 use native.Mathlib.Nat.{add-zero}
-use lib.Dec.{eqb}
 use lib.ListN.{length, take, drop, getD, length-append, length-drop, take-append-drop}
 use lib.Seq.{drop-drop, drop-cons, take-append-seam}
 use borrow.Author.Tests.{ne-eqb}
-use Rattle.kinds.specs.Bytes.{lbracket, rbracket, plus, all, isDigit}
-use Rattle.kinds.specs.Decimal.{unsigned, plain, number, afterPlus}
+use Rattle.kinds.specs.Bytes.{lbracket, rbracket, all, isDigit}
+use Rattle.kinds.specs.Decimal.{number}
 use Rattle.kinds.specs.Kind.{Suffix, sized, unsized}
-use Rattle.kinds.proofs.Logic.{both, all-weaken}
+use Rattle.kinds.proofs.Logic.{all-weaken}
 use Rattle.model.specs.Text.{span, one}
 use Rattle.model.specs.KindText.{inside, longest, sizedBy}
 use Rattle.model.specs.Layout.{littleEndian, recordOf}
 use Rattle.model.specs.Record.{encodeSuffix, encodeSuffixes}
 use Rattle.model.proofs.Scans.{scan-none, scan-item, span-bytes, span-none, between-both, stands-past}
+use Rattle.model.proofs.InBrackets.{inside-exactly}
 use Rattle.model.proofs.Bounds.{record-size}
+use Rattle.model.proofs.KindBack.{inner-digits}
 use Rattle.layout.specs.Buffer.{put, head}
 use Rattle.layout.proofs.Puts.{put-then, length-head, length-put, headed}
 use Rattle.text.specs.Found.{toOption}
@@ -41,41 +42,8 @@ digit-not-shut : (c : ℕ) → isDigit c ≡ true → notShut c ≡ true
 digit-not-shut c e = let b = between-both 48 57 c e in
     rw (ne-eqb c rbracket (λ q. omega arith))
 
-unsigned-digits : (t : List ℕ) (n : ℕ) → unsigned t ≡ some n → all isDigit t ≡ true
-unfolding unsigned
-unsigned-digits [] n e = cc
-unsigned-digits (c ∷ t) n e = go (all isDigit (c ∷ t)) refl
-  where
-    go : (b : Bool) → all isDigit (c ∷ t) ≡ b → b ≡ true
-    go true q = refl
-    go false q = let z : none ≡ some n = rw (unsigned, q) at e in cc
-
-number-unsigned : (m : ℕ) (t : List ℕ) (n : ℕ) → number m t ≡ some n → (k : ℕ) × (unsigned (afterPlus t) ≡ some k)
-unfolding number plain
-number-unsigned m t n e = go (unsigned (afterPlus t)) refl
-  where
-    go : (o : Option ℕ) → unsigned (afterPlus t) ≡ o → (k : ℕ) × (o ≡ some k)
-    go none q = let z : none ≡ some n = rw q at e in let y : _≡_ {A = ℕ} 0 1 = cc in absurd (omega arith)
-    go (some k) q = (k, refl)
-
-number-not-shut : (m : ℕ) (t : List ℕ) (n : ℕ) → number m t ≡ some n → all notShut t ≡ true
-number-not-shut m [] n e = refl
-number-not-shut m (c ∷ t) n e =
-    let (k, u) = number-unsigned m (c ∷ t) n e in
-    go (eqb c plus) refl (unsigned-digits (afterPlus (c ∷ t)) k u)
-  where
-    go : (b : Bool) → eqb c plus ≡ b → all isDigit (afterPlus (c ∷ t)) ≡ true → all notShut (c ∷ t) ≡ true
-    go true q d = both {a = notShut c} (rw (ne-eqb c rbracket (λ w. let z : eqb c plus ≡ false = rw w refl in let y : true ≡ false = sym q ∙ z in let x : _≡_ {A = ℕ} 0 1 = cc in omega arith))) (all-weaken isDigit notShut digit-not-shut t (rw (afterPlus, q) at d))
-    go false q d = all-weaken isDigit notShut digit-not-shut (c ∷ t) (rw (afterPlus, q) at d)
-
 inside-not-shut : (m : List ℕ) (s : Suffix) → inside m ≡ some s → all notShut m ≡ true
-unfolding inside
-inside-not-shut [] s e = refl
-inside-not-shut (c ∷ m) s e = go (number longest (c ∷ m)) refl
-  where
-    go : (o : Option ℕ) → number longest (c ∷ m) ≡ o → all notShut (c ∷ m) ≡ true
-    go none q = let z : none ≡ some s = rw (inside, q) at e in let y : _≡_ {A = ℕ} 0 1 = cc in absurd (omega arith)
-    go (some n) q = number-not-shut longest (c ∷ m) n q
+inside-not-shut m s e = all-weaken isDigit notShut digit-not-shut m (rw (inside-exactly m s .0 e .0) (inner-digits s))
 
 -- so it ends at the next `]`
 module _ (t : List ℕ) (at : ℕ) (m u : List ℕ) (s : Suffix) (i : Stands t at m u s) where

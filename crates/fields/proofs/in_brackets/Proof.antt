@@ -27,17 +27,17 @@ add-t14 c = search needs
 returns : tie.Need-returns
 returns c = search (needs, brackets)
 
-sub-plain : tie.Need-sub-plain
-sub-plain c = search needs
+sub-number : tie.Need-sub-number
+sub-number c = search needs
 
-part-plain-start : tie.Need-part-plain-start
-part-plain-start c = search needs
+part-number-start : tie.Need-part-number-start
+part-number-start c = search needs
 
-part-plain-end : tie.Need-part-plain-end
-part-plain-end c = search needs
+part-number-end : tie.Need-part-number-end
+part-number-end c = search needs
 
-plain-requires : tie.Need-plain-requires
-plain-requires c κs = search needs
+number-requires : tie.Need-number-requires
+number-requires c κs = search needs
 
 enum-known-m : tie.Need-enum-known-m
 enum-known-m c = search needs
@@ -69,10 +69,10 @@ in-brackets-spec =
     look-requires
     add-t14
     returns
-    sub-plain
-    part-plain-start
-    part-plain-end
-    plain-requires
+    sub-number
+    part-number-start
+    part-number-end
+    number-requires
     enum-known-m
     add-t20
     enum-told
