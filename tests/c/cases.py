@@ -4,9 +4,9 @@ The Rust's list says what is read of a text, and canonical text and signature of
 fields stand in the canonical text and the signature. The Rust forgets place words, so its records say nothing of them; the
 marks that stand for them are order 1's. The Rust reads no visibility words: a text with one is read as the text without it,
 and refused where order 2 says. The text of a field's kind is read again as that kind, as order 3 says, which is the field
-without its names. A declaration is written out by order 4's sentence, and its full line is read again as the very record. What
-of records is wrong, and with which refusal, is document 01's and order 1's; the limits of texts are document 01's and, of kind
-texts, order 3's.
+without its names; with a sign or a zero in front of a number it is refused, as order 7 says. A declaration is written out by
+order 4's sentence, and its full line is read again as the very record. What of records is wrong, and with which refusal, is
+document 01's and order 1's; the limits of texts are document 01's and, of kind texts, order 3's.
 """
 import itertools
 import re
@@ -303,6 +303,7 @@ def of_row(row):
     yield from written(call, text, r)
     if call == "kind":
         yield from of_field(r, canonical)
+        yield from of_numbers(text)
     else:
         yield from of_declaration(r, canonical, signature)
     if kind_of(r) == FUNCTION:
@@ -348,6 +349,24 @@ def of_visible(call, text, r):
         number, position = (7, len(front)) if len(twice) <= MOST_BYTES else (8, 0)
         yield from refused(call, twice, f"no {number} {position}")
         yield from written(f"message:{call}", twice, message(call, twice, number, position))
+
+
+# Numbers that are not plain, put into kind texts that are read.
+
+NUMBER = re.compile(rb"(?<=int)[0-9]+|(?<=bytes)[0-9]+|(?<=\[)[0-9]+")
+
+
+def refusal_of_kind(text):
+    """Of a kind text that is read but for a number: by its beginning."""
+    return "no 11 0" if text.startswith((b"int", b"uint")) else "no 12 0" if text.startswith(b"bytes") else "no 13 0"
+
+
+def of_numbers(text):
+    """With a sign or zeros in front of its first number, and of its last, a kind text is refused."""
+    numbers = [found.start() for found in NUMBER.finditer(text)]
+    for at, front in itertools.product({*numbers[:1], *numbers[-1:]}, (b"+", b"0", b"+0", b"00")):
+        given = text[:at] + front + text[at:]
+        yield from refused("kind", given, refusal_of_kind(text) if len(given) <= MOST_BYTES else "no 8 0")
 
 
 # Messages.
@@ -633,6 +652,35 @@ def of_visibility_words():
     yield from of_refused_text(b"constructor() public", "constructor", 7, 14)
     yield from of_refused_text(b"event e() external", "event", 7, 10)
     yield from written("message:general", b"function f() external external", b'expected end of declaration at position 22("... external |external")')
+
+
+# Texts with numbers that are not plain, which the Rust reads, and with plain ones.
+
+def of_plain_numbers():
+    for answer, texts in (
+        ("no 11 0", b"uint08 uint[+2] uint[00] uint[2][02] uint0 uint00 uint12[02]"),
+        ("no 12 0", b"bytes01 bytes[02] bytes4[01] bytes0"),
+        ("no 13 0", b"bool[02] address[010] (uint08) (uint)[02] (uint)[2][03] x[02]"),
+    ):
+        for text in texts.split():
+            yield from refused("kind", text, answer)
+    for length in (0, 10, 2 ** 64 - 1):
+        suffix = record(FIXED, number(length, 8))
+        yield from written("kind", b"uint[%d]" % length, field(UINT, suffixes=suffix))
+        yield from written("kind", b"(uint)[%d]" % length, field(record(TUPLE, field(UINT)), suffixes=suffix))
+    for text, keyword, position in (
+        (b"function f(uint08)", "function", 11),
+        (b"function f(bool,uint08)", "function", 15),
+        (b"error e(bytes+1)", "error", 8),
+        (b"function f((uint)[02])", "function", 17),
+        (b"function f((uint)[2][03])", "function", 20),
+        (b"function f(((uint)[02]))", "function", 11),
+        (b"function f() returns ((bool)[01])", "function", 28),
+        (b"constructor(bool[" + b"0" * 4000 + b"2])", "constructor", 12),
+    ):
+        yield from of_refused_text(text, keyword, 3, position)
+    yield from of_text(b"function f(uint a08)", function(field(UINT, b"a08")), b"f(uint256)", b"f(uint256):()")
+    yield from of_text(b"function f08(uint $0)", function(field(UINT, b"$0"), name=b"f08"), b"f08(uint256)", b"f08(uint256):()")
 
 
 # Texts at the limits, where the Rust is not asked.
