@@ -87,7 +87,7 @@ pub const FULL: [(&str, &str); 12] = [
     ("function f(bytes32 calldata)pure", "function f(bytes32 calldata) pure"),
     ("error e( ( ) [ ] [2 ] , ( ) a );", "error e(()[][2],() a)"),
     ("event e(int indexed,int8 indexed a)", "event e(int256 indexed,int8 indexed a)"),
-    ("function function(function[+1] function)", "function function(function[1] function)"),
+    ("function function(function[1] function)", "function function(function[1] function)"),
 ];
 
 /// Order 3: texts for the kind call, most of which start with a bracket.
