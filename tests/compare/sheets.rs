@@ -30,8 +30,10 @@ fn single(line: &[u8]) -> Result<Declared, Answer> {
         return Err((8, 0));
     }
     let text = std::str::from_utf8(line).map_err(|e| (9, e.valid_up_to()))?;
-    let spaced = original::spaced(GENERAL, text);
-    let known = spaced.as_deref().unwrap_or(text);
+    let letters = original::with_letters(text);
+    let plain = letters.as_deref().unwrap_or(text);
+    let spaced = original::spaced(GENERAL, plain);
+    let known = spaced.as_deref().unwrap_or(plain);
     if let Some(position) = original::too_deep(GENERAL, known) {
         return Err((10, position));
     }
