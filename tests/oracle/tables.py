@@ -224,14 +224,15 @@ def full_text():
         yield "full", AMPLE, text, line(written)
     for written in full_lines():
         yield "full", AMPLE, loosely(written), line(written)
-    for written in ("function f(uint256 a) view returns (bool)", "constructor()", "event e((bool a) indexed t) anonymous", "error e()"):
+    longer = f"error e(bool{'[18446744073709551615]' * 8})"  # than its record
+    for written in ("function f(uint256 a) view returns (bool)", "constructor()", "event e((bool a) indexed t) anonymous", "error e()", longer):
         yield "full", len(written), written, line(written)
         yield "full", len(written) - 1, written, no(20, 0)
         yield "full", 0, written, no(20, 0)
-    sized = "[18446744073709551615]" * 8  # the line is longer than its record
-    yield "full", AMPLE, f"error e(bool{sized})", line(f"error e(bool{sized})")
-    many = "function f(" + ",".join(["uint"] * 817) + ")"  # and longer than any text that is read
-    yield "full", AMPLE, many, line(many.replace("uint", "uint256"))
+    many = "function f(" + ",".join(["uint"] * 817) + ")"  # 4,096 bytes, of which the line has more
+    written = many.replace("uint", "uint256")
+    yield "full", AMPLE, many, line(written)
+    yield "general", AMPLE, written, no(8, 0)
     for text in ("bool", "(uint)[2]"):  # "a field where a declaration is due"
         yield "full_kind", AMPLE, text, no(15, 0)
         yield "full_kind", 0, text, no(15, 0)
