@@ -29,7 +29,7 @@
 extern "C" {
 #endif
 
-#define GEUSOMIN_VERSION "0.5.0"
+#define GEUSOMIN_VERSION "0.7.0"
 
 /* A text of more than GEUSOMIN_TEXT_MAX bytes is refused with 8. A record of more than GEUSOMIN_RECORD_MAX bytes is not
    well formed, and a reading call writes at most 10 bytes for each byte of its text, so a buffer of GEUSOMIN_RECORD_MAX
