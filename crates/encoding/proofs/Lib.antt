@@ -1,0 +1,9 @@
+pub mod Words
+pub mod Ranges
+pub mod Stands
+pub mod Members
+pub mod Leaves
+pub mod Lengths
+pub mod Exactly
+pub mod Runs
+pub mod Examples
