@@ -11,7 +11,7 @@ VERSION = re.compile(r'^#define GEUSOMIN_VERSION "(\d+\.\d+\.\d+)"$', re.M)
 STRICT = ["-Wall", "-Wextra", "-Wpedantic", "-Werror"]
 LANGUAGES = {"C99": ["gcc", "-std=c99", "-x", "c"], "C11": ["gcc", "-std=c11", "-x", "c"], "C++": ["g++", "-x", "c++"]}
 NUMBERS = (*range(41), 2 ** 32 - 1)  # those that header.c asks for
-ORDERS = 5  # so many orders of document 02 are in
+ORDERS = 7  # so many orders of document 02 are in
 
 
 def order_words(orders):
