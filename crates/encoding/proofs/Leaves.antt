@@ -18,7 +18,7 @@ use Rattle.encoding.specs.Words.{isByte, word, wholeWords, padded}
 use Rattle.encoding.specs.Values.{Value, natural, negative, text, members, naturalBelow, signedBelow, textOf, isElementaryValue}
 use Rattle.encoding.specs.Encoding.{bytesIn, integerWord, counted, encElementary}
 use Rattle.encoding.specs.Judge.{beValue, allAre, isWordOf, when, wordAt, hasWord, tested, filled, stringAt, leaf}
-use Rattle.kinds.proofs.Logic.{both, left, right}
+use Rattle.kinds.proofs.Logic.{both, left, right, width-most}
 use Rattle.encoding.proofs.Words.{word-length, word-read, word-written, word-below}
 use Rattle.encoding.proofs.Ranges.{same-test, part-bytes, zeros-below, front-below, sign-repeated, Octets, octets-of}
 use Rattle.encoding.proofs.Stands.{Stands, stands-join, stands-front, stands-rest, stands-take, taken, Exact, when-some, bytes-at, long-at, tested-exact, zeros-only, zeros-zero, padded-long, Padded, filled-exact}
@@ -180,9 +180,6 @@ module _ (d : List ℕ) (all-bytes : all isByte d ≡ true) where
 
   below-power : (m n k : ℕ) → n + k ≡ 32 → 2 ^ m ≡ 256 ^ k → (w : List ℕ) → length w ≡ 32 → all isByte w ≡ true → ltb (beValue w) (2 ^ m) ≡ allAre 0 (take n w)
   below-power m n k e f w long b = rw f (zeros-below w b n k (omega arith))
-
-  width-most : (m : ℕ) → isBitWidth m ≡ true → m ≤ 256
-  width-most m h = leb-true m 256 (right (leb 1 m) (left _ h))
 
   int-bytes : (m : ℕ) → isBitWidth m ≡ true → (w : List ℕ) → length w ≡ 32 → all isByte w ≡ true → (ltb (beValue w) (2 ^ (m - 1)) || leb (2 ^ 256 - 2 ^ (m - 1)) (beValue w)) ≡ isWordOf (int (bits m)) w
   unfolding isWordOf

@@ -1,13 +1,15 @@
--- Laws of tests: two tests that both pass, a test of every element of a list, the classes of bytes, and whether two byte strings are equal.
+-- Laws of tests: two tests that both pass, a test of every element of a list, the classes of bytes, widths and byte lengths, and
+-- whether two byte strings are equal.
 -- Assumes nothing.
 use mathlib.Core.Path.{_≡_, refl, ap₂}
 use mathlib.Core.Logic.{_↔_}
 use mathlib.Core.Bool.{Bool, true, false, _&&_, and-eq-true-iff, and-assoc, or-true}
 use mathlib.Core.List.{List, [], _∷_, _++_}
-use Prim.Native.Nat.{ℕ}
-use lib.Dec.{eqb}
-use borrow.Author.Tests.{eqb-true, eq-eqb}
+use Prim.Native.Nat.{ℕ, _≤_}
+use lib.Dec.{leb, eqb}
+use borrow.Author.Tests.{leb-true, eqb-true, eq-eqb}
 use Rattle.kinds.specs.Bytes.{all, same, isDigit, isLetter, isWordByte, isWord}
+use Rattle.kinds.specs.Kind.{isBitWidth, isByteLength}
 
 pub both : {a b : Bool} → a ≡ true → b ≡ true → (a && b) ≡ true
 both {a} {b} h k = (and-eq-true-iff a b) .1 (h, k)
@@ -37,6 +39,13 @@ letter-word c h = rw h (or-true (isDigit c))
 pub word-all : (w : List ℕ) → isWord w ≡ true → all isWordByte w ≡ true
 word-all [] h = refl
 word-all (c ∷ w) h = both (letter-word c (left _ h)) (right (isLetter c) h)
+
+-- the largest width and the largest byte length
+pub width-most : (m : ℕ) → isBitWidth m ≡ true → m ≤ 256
+width-most m h = leb-true m 256 (right (leb 1 m) (left _ h))
+
+pub byte-length-most : (m : ℕ) → isByteLength m ≡ true → m ≤ 32
+byte-length-most m h = leb-true m 32 (right (leb 1 m) h)
 
 -- two byte strings pass the test exactly where they are equal
 pub same-self : (s : List ℕ) → same s s ≡ true

@@ -12,7 +12,7 @@ use borrow.Author.Tests.{ne-eqb, le-leb, lt-ltb, not-true}
 use Rattle.kinds.specs.Bytes.{comma, rparen, lbracket, rbracket, all, same, isAscii, isDigit, isWordByte, isWord}
 use Rattle.kinds.specs.Decimal.{decimal, number}
 use Rattle.kinds.specs.Kind.{bits, octets, isBitWidth, isElementary, Elementary, int, uint, fixedBytes, address, bool, function, bytes, string, Suffix, sized, unsized, elementaryText, suffixText}
-use Rattle.kinds.proofs.Logic.{both, left, right, all-append, all-weaken, digit-word, word-all}
+use Rattle.kinds.proofs.Logic.{both, left, right, all-append, all-weaken, digit-word, word-all, width-most, byte-length-most}
 use Rattle.kinds.proofs.Decimal.{decimal-digits, decimal-word, decimal-cons, written-read}
 use Rattle.model.specs.KindText.{ok, elementaryOf, lookup, uncut, cutLast, peeled, bare, peel, width, byteLength, withNumber, fromStr}
 use Rattle.model.specs.Record.{isSuffix}
@@ -72,7 +72,7 @@ decimal-nonempty : (n : ℕ) → same [] (decimal n) ≡ false
 decimal-nonempty n = ap (same []) (decimal-cons n .2)
 
 width-read : (m : ℕ) → isBitWidth m ≡ true → number 256 (decimal m) ≡ some m
-width-read m h = written-read 256 m .1 (between-both 1 256 m (left _ h) .1)
+width-read m h = written-read 256 m .1 (width-most m h)
 
 elementary-is-word : (e : Elementary) → isWord (elementaryText e) ≡ true
 unfolding elementaryText
@@ -89,7 +89,7 @@ elementary-back : (e : Elementary) → isElementary e ≡ true → elementaryOf 
 unfolding isElementary elementaryText elementaryOf withNumber
 elementary-back (int (bits m)) h = rw (elementaryOf, lookup, decimal-nonempty m, width-read m h, width, h)
 elementary-back (uint (bits m)) h = rw (elementaryOf, lookup, decimal-nonempty m, width-read m h, width, h)
-elementary-back (fixedBytes (octets m)) h = rw (elementaryOf, lookup, decimal-nonempty m, written-read 32 m .1 (between-both 1 32 m h .1), byteLength, h)
+elementary-back (fixedBytes (octets m)) h = rw (elementaryOf, lookup, decimal-nonempty m, written-read 32 m .1 (byte-length-most m h), byteLength, h)
 elementary-back address h = refl
 elementary-back bool h = refl
 elementary-back function h = refl

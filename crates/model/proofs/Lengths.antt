@@ -1,10 +1,10 @@
 -- How long the texts that are written of a record are: none is twice as long as the record is.
 -- Assumes nothing.
 use mathlib.Core.Path.{_≡_, refl, ap}
-use mathlib.Core.Bool.{Bool, true, false, false≢true}
+use mathlib.Core.Bool.{Bool, true, false≢true}
 use mathlib.Core.List.{List, [], _∷_, _++_}
 use mathlib.Core.Option.{Option, none, some}
-use Prim.Native.Nat.{ℕ, zero, suc, _+_, _*_, _%_, _≤_, _<_}
+use Prim.Native.Nat.{ℕ, zero, suc, _+_, _*_, _≤_, _<_}
 use native.Mathlib.Omega.{arith}
 use lib.Dec.{leb, eqb}
 use lib.ListN.{length, length-append}
@@ -12,7 +12,7 @@ use borrow.Author.Tests.{leb-true}
 use Rattle.kinds.specs.Bytes.{ascii, all, between, isWord}
 use Rattle.kinds.specs.Decimal.{decimal}
 use Rattle.kinds.specs.Kind.{bits, octets, isBitWidth, isElementary, Elementary, int, uint, fixedBytes, address, bool, bytes, string, Suffix, sized, unsized, Kind, elementaryText, suffixText, kindText, listText, restText, Prototype, canonical}
-use Rattle.kinds.proofs.Logic.{left, right}
+use Rattle.kinds.proofs.Logic.{left, right, width-most, byte-length-most}
 use Rattle.kinds.proofs.Decimal.{decimal-short}
 use Rattle.model.specs.declared.Refusal.{Refusal}
 use Rattle.model.specs.declared.Sort.{Sort}
@@ -36,13 +36,13 @@ number-short : (m n : ℕ) → n ≤ m → m ≤ 999 → length (decimal n) ≤ 
 number-short m n h k = decimal-short 3 n (omega arith) (omega arith)
 
 width-short : (m : ℕ) → isBitWidth m ≡ true → length (decimal m) ≤ 3
-width-short m h = number-short 256 m (leb-true m 256 (right (leb 1 m) (left (eqb (m % 8) 0) h))) (omega arith)
+width-short m h = number-short 256 m (width-most m h) (omega arith)
 
 elementary-short : (e : Elementary) → isElementary e ≡ true → length (elementaryText e) ≤ 2 * length (encodeElementary 4 e)
 unfolding isElementary elementaryText encodeElementary
 elementary-short (int (bits m)) h = simp (length-append, record-size) (omega (arith, width-short m h))
 elementary-short (uint (bits m)) h = simp (length-append, record-size) (omega (arith, width-short m h))
-elementary-short (fixedBytes (octets m)) h = simp (length-append, record-size) (omega (arith, number-short 32 m (leb-true m 32 (right (leb 1 m) h)) (omega arith)))
+elementary-short (fixedBytes (octets m)) h = simp (length-append, record-size) (omega (arith, number-short 32 m (byte-length-most m h) (omega arith)))
 elementary-short address h = simp record-size (omega arith)
 elementary-short bool h = simp record-size (omega arith)
 elementary-short Elementary.function h = simp record-size (omega arith)

@@ -2,7 +2,7 @@
 -- Assumes nothing.
 use mathlib.Core.Path.{_≡_, refl, sym, _∙_, ap}
 use mathlib.Core.Logic.{_↔_}
-use mathlib.Core.Bool.{Bool, true, false, _&&_, _||_, false≢true, and-eq-true-iff}
+use mathlib.Core.Bool.{Bool, true, false, _&&_, false≢true, and-eq-true-iff}
 use mathlib.Core.List.{List, [], _∷_, _++_, append-nil}
 use mathlib.Core.Option.{Option, none, some, Option·none-ne-some, Option·some-injective}
 use Prim.Native.Nat.{ℕ, zero, suc, _^_, _<_}
@@ -12,7 +12,7 @@ use lib.ListN.{length, take, drop, length-append}
 use borrow.Author.Tests.{leb-true, le-leb, eqb-true}
 use Rattle.kinds.specs.Bytes.{all, between, isDigit, isWordByte, isWord}
 use Rattle.kinds.specs.Kind.{bits, octets, isBitWidth, isByteLength, isElementary, Elementary, int, uint, fixedBytes, address, bool, bytes, string, Suffix, sized, unsized}
-use Rattle.kinds.proofs.Logic.{both, left, right, word-all}
+use Rattle.kinds.proofs.Logic.{both, left, right, word-all, width-most, byte-length-most}
 use Rattle.model.specs.declared.Sort.{Sort}
 use Rattle.model.specs.declared.Sort.the-variants.{Plain, Parameter, Event}
 use Rattle.model.specs.Tree.{Base, elementary, tuple, Field, field, Fields, noField, moreFields, Declaration}
@@ -26,10 +26,10 @@ use Rattle.model.proofs.Decoding.{Sound, Written, Reads, Spells, Part, 
 
 -- widths and byte lengths fit two bytes
 width-fits : (n : ℕ) → isBitWidth n ≡ true → n < 256 ^ 2
-width-fits n h = omega (arith, leb-true n 256 (right (leb 1 n) (left {a = between 1 256 n} _ h)))
+width-fits n h = omega (arith, width-most n h)
 
 byte-length-fits : (n : ℕ) → isByteLength n ≡ true → n < 256 ^ 2
-byte-length-fits n h = omega (arith, leb-true n 32 (right (leb 1 n) h))
+byte-length-fits n h = omega (arith, byte-length-most n h)
 
 -- for lengths of any width
 module _ (w : ℕ) where
