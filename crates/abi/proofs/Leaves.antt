@@ -6,14 +6,13 @@ use mathlib.Core.List.{List, [], _∷_, _++_}
 use mathlib.Core.Option.{Option, none, some, Option·none-ne-some, Option·some-injective}
 use Prim.Native.Nat.{ℕ, _+_, _≤_, _<_}
 use native.Mathlib.Omega.{arith}
-use lib.Dec.{leb, eqb}
+use lib.Dec.{eqb}
 use lib.ListN.{length, take, drop, set, length-append, length-set}
 use lib.Seq.{take-all}
-use borrow.Author.Tests.{leb-true, eq-eqb, eqb-true, eqb-false}
-use Rattle.kinds.specs.Bytes.{ascii, between}
+use borrow.Author.Tests.{eq-eqb, eqb-true, eqb-false}
+use Rattle.kinds.specs.Bytes.{ascii}
 use Rattle.kinds.specs.Decimal.{decimal}
 use Rattle.kinds.specs.Kind.{bits, octets, isBitWidth, isByteLength, Elementary, int, uint, fixedBytes, address, bool, bytes, string, elementaryText, Suffix, sized, unsized, suffixText}
-use Rattle.kinds.proofs.Logic.{left, right}
 use Rattle.model.specs.Layout.{leValue}
 use Rattle.model.specs.Record.{onOption, when, ended, wholly, suffixCases, decodeElementary, decodeSuffix}
 use Rattle.model.proofs.Decoding.{when-some, ended-some, select-other}
@@ -21,7 +20,9 @@ use Rattle.layout.specs.Buffer.{put}
 use Rattle.layout.proofs.Puts.{put-then, length-put}
 use Rattle.record.specs.Texts.{elementaryFrom, suffixFrom}
 use Rattle.record.proofs.There.{test-there}
-use Rattle.abi.specs.Writes.{Room, Wrote}
+use Rattle.sizes.specs.Checked.{checked}
+use Rattle.sizes.proofs.Checks.{checked-true, checked-some}
+use Rattle.abi.specs.Writes.{Room, Wrote, numberFrom}
 use Rattle.abi.proofs.Stores.{store-1, store-2}
 
 -- a text that is known
@@ -38,10 +39,27 @@ wrote-none t e o b b₁ r = record { all = λ v q. absurd (Option·none-ne-some 
 pub room-text : (t : Option (List ℕ)) (o : ℕ) (b u : List ℕ) → Room t o b → t ≡ some u → o + length u ≤ length b
 room-text t o b u q e = let same : q .text ≡ u = Option·some-injective _ _ (sym (q .same) ∙ e) in rw same at (q .room)
 
+-- one text behind the other
+module _ (t u v : Option (List ℕ)) (x y : List ℕ) (e : u ≡ some x) (f : v ≡ some y) (g : t ≡ some (x ++ y)) (o : ℕ) (b : List ℕ) (h : Room t o b) where
+  pub both-room : o + length x + length y ≤ length b
+  both-room = omega (arith, room-text t o b (x ++ y) h g, length-append x y)
+
+  pub first-room : Room u o b
+  first-room = record { text = x; same = e; room = omega (arith, both-room) }
+
+  module _ (b₁ : List ℕ) (p : ℕ) (w : Wrote u o b b₁ p) where
+    pub second-room : Room v p b₁
+    second-room = record { text = y; same = f; room = omega (arith, both-room, w .end x e, ap length (w .all x e), length-put o x b (omega (arith, both-room))) }
+
+    pub both-wrote : (b₂ : List ℕ) (r : ℕ) → Wrote v p b₁ b₂ r → Wrote t o b b₂ r
+    both-wrote b₂ r z =
+        wrote-text t (x ++ y) g o b b₂ r
+        (put-then o p x y b b₁ b₂ (w .all x e) (z .all y f) (w .end x e) both-room)
+        (omega (arith, w .end x e, z .end y f, length-append x y))
+
 -- a number of two bytes behind a word
-pub record Number (k : ℕ) (body w : List ℕ) : Type 0 where
-  pub long : length body ≡ 2
-  pub small : leValue body < 1000
+pub record Number (k : ℕ) (t : ℕ → Bool) (body w : List ℕ) : Type 0 where
+  pub number : numberFrom t body ≡ some (decimal (leValue body))
   pub text : elementaryFrom k body ≡ some (w ++ decimal (leValue body))
 
 number-there : {A : Type 0} (body : List ℕ) (t : ℕ → Bool) (f : ℕ → A) (a : A) → wholly 2 body (λ n. when (t n) (some (f n))) ≡ some a → (length body ≡ 2) × (t (leValue body) ≡ true) × (a ≡ f (leValue body))
@@ -50,11 +68,37 @@ number-there body t f a e =
     when-some (t (leValue body)) _ e₁ (λ q e₂.
     (eqb-true _ _ p, q, sym (Option·some-injective _ _ e₂))))
 
-width-small : (n : ℕ) → isBitWidth n ≡ true → n < 1000
-width-small n h = omega (arith, leb-true n 256 (right (leb 1 n) (left {a = between 1 256 n} _ h)))
+number-is : (body : List ℕ) (t : ℕ → Bool) → length body ≡ 2 → t (leValue body) ≡ true → numberFrom t body ≡ some (decimal (leValue body))
+unfolding numberFrom
+number-is body t h e = rw (wholly, eq-eqb (length body) 2 h, when, e)
 
-byte-length-small : (n : ℕ) → isByteLength n ≡ true → n < 1000
-byte-length-small n h = omega (arith, leb-true n 32 (right (leb 1 n) h))
+-- the number by itself: there are two bytes, and it is the one that was checked
+module _ (t : ℕ → Bool) (body : List ℕ) (o : ℕ) (b : List ℕ) (q : Room (numberFrom t body) o b) where
+  there : (length body ≡ 2) × (t (leValue body) ≡ true) × (q .text ≡ decimal (leValue body))
+  unfolding numberFrom
+  there = number-there body t decimal (q .text) (q .same)
+
+  pub number-long : 2 ≤ length body
+  number-long = omega (arith, there .0)
+
+  module _ (n : ℕ) (e : n ≡ leValue (take 2 (drop 0 body))) where
+    value-is : n ≡ leValue body
+    value-is = e ∙ ap leValue (take-all 2 body (omega (arith, there .0)))
+
+    -- the check passes, and its number is written in the room that there is
+    module _ (v : ℕ) (f : checked t n ≡ some v) where
+      checked-is : v ≡ leValue body
+      checked-is = checked-some t n v f .1 ∙ value-is
+
+      pub number-room : o + length (decimal v) ≤ length b
+      number-room = rw checked-is (rw (there .2) at (q .room))
+
+      pub number-wrote : (b₁ : List ℕ) (r : ℕ) → b₁ ≡ put o (decimal v) b → r ≡ o + length (decimal v) → Wrote (numberFrom t body) o b b₁ r
+      number-wrote b₁ r g h = wrote-text (numberFrom t body) (decimal v) (number-is body t (there .0) (there .1) ∙ ap (λ x. some (decimal x)) (sym checked-is)) o b b₁ r g h
+
+    -- it cannot fail
+    pub number-fails : (b₁ : List ℕ) (r : ℕ) → checked t n ≡ none → Wrote (numberFrom t body) o b b₁ r
+    number-fails b₁ r f = absurd (Option·none-ne-some n (sym f ∙ checked-true t n (rw value-is (there .1))))
 
 -- what was read, of a text that there is
 read : {A : Type 0} (text : A → List ℕ) (o : Option A) (u : List ℕ) → onOption text o ≡ some u → (a : A) × (o ≡ some a) × (text a ≡ u)
@@ -62,24 +106,24 @@ read text none u e = absurd (Option·none-ne-some u e)
 read text (some a) u e = (a, refl, Option·some-injective _ _ e)
 
 module _ (k : ℕ) (body : List ℕ) (o : ℕ) (b : List ℕ) (q : Room (elementaryFrom k body) o b) where
-  numbered : (w : List ℕ) (t : ℕ → Bool) (f : ℕ → Elementary) → decodeElementary k body ≡ wholly 2 body (λ n. when (t n) (some (f n))) → ((n : ℕ) → t n ≡ true → n < 1000) → ((n : ℕ) → elementaryText (f n) ≡ w ++ decimal n) → Number k body w
+  numbered : (w : List ℕ) (t : ℕ → Bool) (f : ℕ → Elementary) → decodeElementary k body ≡ wholly 2 body (λ n. when (t n) (some (f n))) → ((n : ℕ) → elementaryText (f n) ≡ w ++ decimal n) → Number k t body w
   unfolding elementaryFrom
-  numbered w t f e small text =
+  numbered w t f e text =
       let (a, p, _) = read elementaryText (decodeElementary k body) (q .text) (q .same) in
       let (l, h, g) = number-there body t f a (sym e ∙ p) in
-      record { long = l; small = small _ h; text = ap (onOption elementaryText) (p ∙ ap some g) ∙ ap some (text (leValue body)) }
+      record { number = number-is body t l h; text = ap (onOption elementaryText) (p ∙ ap some g) ∙ ap some (text (leValue body)) }
 
-  pub number-int : k ≡ 1 → Number k body (ascii "int")
+  pub number-int : k ≡ 1 → Number k isBitWidth body (ascii "int")
   unfolding decodeElementary elementaryText
-  number-int e = numbered (ascii "int") isBitWidth (λ n. int (bits n)) (rw e) width-small (λ n. refl)
+  number-int e = numbered (ascii "int") isBitWidth (λ n. int (bits n)) (rw e) (λ n. refl)
 
-  pub number-uint : k ≡ 2 → Number k body (ascii "uint")
+  pub number-uint : k ≡ 2 → Number k isBitWidth body (ascii "uint")
   unfolding decodeElementary elementaryText
-  number-uint e = numbered (ascii "uint") isBitWidth (λ n. uint (bits n)) (rw e) width-small (λ n. refl)
+  number-uint e = numbered (ascii "uint") isBitWidth (λ n. uint (bits n)) (rw e) (λ n. refl)
 
-  pub number-bytes : k ≡ 5 → Number k body (ascii "bytes")
+  pub number-bytes : k ≡ 5 → Number k isByteLength body (ascii "bytes")
   unfolding decodeElementary elementaryText
-  number-bytes e = numbered (ascii "bytes") isByteLength (λ n. fixedBytes (octets n)) (rw e) byte-length-small (λ n. refl)
+  number-bytes e = numbered (ascii "bytes") isByteLength (λ n. fixedBytes (octets n)) (rw e) (λ n. refl)
 
   -- a word alone
   word : (x : Elementary) (w : List ℕ) → elementaryText x ≡ w → decodeElementary k body ≡ ended body (some x) → elementaryFrom k body ≡ some w
@@ -108,26 +152,20 @@ module _ (k : ℕ) (body : List ℕ) (o : ℕ) (b : List ℕ) (q : Room (element
   unfolding decodeElementary elementaryText
   word-string e = word string (ascii "string") refl (rw e)
 
-  -- room for a word and its number, and both written
-  module _ (w : List ℕ) (n : Number k body w) where
-    pub number-room : o + (length w + length (decimal (leValue body))) ≤ length b
-    number-room = omega (arith, room-text (elementaryFrom k body) o b (w ++ decimal (leValue body)) q (n .text), length-append w (decimal (leValue body)))
+  -- a word and its number: room for each, and both written
+  module _ (t : ℕ → Bool) (w : List ℕ) (n : Number k t body w) where
+    pub word-room : o + length w ≤ length b
+    word-room = omega (arith, both-room (elementaryFrom k body) (some w) (numberFrom t body) w (decimal (leValue body)) refl (n .number) (n .text) o b q)
 
-    pub number-value : (v : ℕ) → v ≡ leValue (take 2 (drop 0 body)) → v ≡ leValue body
-    number-value v e = e ∙ ap leValue (take-all 2 body (omega (arith, n .long)))
+    module _ (b₁ : List ℕ) (p : ℕ) (e : b₁ ≡ put o w b) (f : p ≡ o + length w) where
+      wrote : Wrote (some w) o b b₁ p
+      wrote = wrote-text (some w) w refl o b b₁ p e f
 
-    pub number-asks : (p v : ℕ) (b₁ : List ℕ) → b₁ ≡ put o w b → p ≡ o + length w → v ≡ leValue (take 2 (drop 0 body)) → (v < 1000) × (p + length (decimal v) ≤ length b₁)
-    number-asks p v b₁ e f g =
-        let j = number-value v g in
-        let size : length b₁ ≡ length b = ap length e ∙ length-put o w b (omega (arith, number-room)) in
-        rw j (n .small, omega (arith, number-room))
+      pub digits-room : Room (numberFrom t body) p b₁
+      digits-room = second-room (elementaryFrom k body) (some w) (numberFrom t body) w (decimal (leValue body)) refl (n .number) (n .text) o b q b₁ p wrote
 
-    pub number-wrote : (p v r : ℕ) (b₁ b₂ : List ℕ) → b₁ ≡ put o w b → p ≡ o + length w → v ≡ leValue (take 2 (drop 0 body)) → b₂ ≡ put p (decimal v) b₁ → r ≡ p + length (decimal v) → Wrote (elementaryFrom k body) o b b₂ r
-    number-wrote p v r b₁ b₂ e f g h i =
-        let j = number-value v g in
-        wrote-text (elementaryFrom k body) (w ++ decimal (leValue body)) (n .text) o b b₂ r
-        (put-then o p w (decimal (leValue body)) b b₁ b₂ e (rw j at h) f (omega (arith, number-room)))
-        (rw j at i ∙ omega (arith, length-append w (decimal (leValue body))))
+      pub word-wrote : (b₂ : List ℕ) (r : ℕ) → Wrote (numberFrom t body) p b₁ b₂ r → Wrote (elementaryFrom k body) o b b₂ r
+      word-wrote b₂ r z = both-wrote (elementaryFrom k body) (some w) (numberFrom t body) w (decimal (leValue body)) refl (n .number) (n .text) o b q b₁ p wrote b₂ r z
 
 -- nothing is to be written where there is no text
 pub elementary-missing : (k : ℕ) (body : List ℕ) (o : ℕ) (b b₁ : List ℕ) (r : ℕ) → elementaryFrom k body ≡ none → Wrote (elementaryFrom k body) o b b₁ r

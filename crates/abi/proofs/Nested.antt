@@ -2,7 +2,7 @@
 -- Assumes nothing.
 use mathlib.Core.Path.{_≡_, refl, sym, _∙_, ap}
 use mathlib.Core.List.{List, _++_}
-use mathlib.Core.Option.{Option, some, Option·none-ne-some}
+use mathlib.Core.Option.{some, Option·none-ne-some}
 use Prim.Native.Nat.{ℕ, zero, suc, _+_, _-_, _≤_, _<_}
 use native.Mathlib.Omega.{arith}
 use lib.ListN.{length, take, drop, length-append}
@@ -15,31 +15,12 @@ use Rattle.model.specs.Record.{baseFrom, fieldFrom, tupleFrom}
 use Rattle.model.specs.Line.{fieldText}
 use Rattle.model.proofs.Decoding.{given-some, on-some}
 use Rattle.model.proofs.Scans.{part-rest}
-use Rattle.layout.proofs.Puts.{put-then, length-put}
 use Rattle.record.specs.Texts.{elementaryFrom, suffixesFrom, baseTextFrom, kindFrom, fieldTextFrom, fieldsFrom, tupleTextFrom}
 use Rattle.record.proofs.Equations.{kind-full, base-deep, base-tuple, base-elementary}
 use Rattle.record.proofs.There.{piece-there, nameEnd, field-there}
 use Rattle.record.proofs.Walk.{body-length}
 use Rattle.abi.specs.Writes.{Room, Wrote, KindRoom, KindWrote, FieldRoom, FieldWrote, FieldsRoom, FieldsWrote}
-use Rattle.abi.proofs.Leaves.{wrote-text, room-text}
-
--- one text behind the other
-module _ (t u v : Option (List ℕ)) (x y : List ℕ) (e : u ≡ some x) (f : v ≡ some y) (g : t ≡ some (x ++ y)) (o : ℕ) (b : List ℕ) (h : Room t o b) where
-  both-room : o + length x + length y ≤ length b
-  both-room = omega (arith, room-text t o b (x ++ y) h g, length-append x y)
-
-  first-room : Room u o b
-  first-room = record { text = x; same = e; room = omega (arith, both-room) }
-
-  module _ (b₁ : List ℕ) (p : ℕ) (w : Wrote u o b b₁ p) where
-    second-room : Room v p b₁
-    second-room = record { text = y; same = f; room = omega (arith, both-room, w .end x e, ap length (w .all x e), length-put o x b (omega (arith, both-room))) }
-
-    both-wrote : (b₂ : List ℕ) (r : ℕ) → Wrote v p b₁ b₂ r → Wrote t o b b₂ r
-    both-wrote b₂ r z =
-        wrote-text t (x ++ y) g o b b₂ r
-        (put-then o p x y b b₁ b₂ (w .all x e) (z .all y f) (w .end x e) both-room)
-        (omega (arith, w .end x e, z .end y f, length-append x y))
+use Rattle.abi.proofs.Leaves.{wrote-text, first-room, second-room, both-wrote}
 
 -- a base and its suffixes: what stands there, where there is a text
 pub record KindThere (d : ℕ) (t : List ℕ) : Type 0 where

@@ -1,12 +1,15 @@
 -- What the writers ask and leave: a text that the record stands for, and room for it.
 -- Assumes nothing.
 use mathlib.Core.Path.{_≡_}
+use mathlib.Core.Bool.{Bool}
 use mathlib.Core.List.{List}
 use mathlib.Core.Option.{Option, some}
 use Prim.Native.Nat.{ℕ, _+_, _≤_}
 use lib.ListN.{length, take, drop}
+use Rattle.kinds.specs.Decimal.{decimal}
 use Rattle.model.specs.declared.Sort.{Sort}
 use Rattle.model.specs.Layout.{leValue}
+use Rattle.model.specs.Record.{when, wholly}
 use Rattle.layout.specs.Buffer.{put}
 use Rattle.record.specs.Texts.{kindFrom, fieldTextFrom, tupleTextFrom}
 
@@ -20,6 +23,10 @@ pub record Room (t : Option (List ℕ)) (o : ℕ) (b : List ℕ) : Type 0 where
 pub record Wrote (t : Option (List ℕ)) (o : ℕ) (b b₁ : List ℕ) (r : ℕ) : Type 0 where
   pub all : (u : List ℕ) → t ≡ some u → b₁ ≡ put o u b
   pub end : (u : List ℕ) → t ≡ some u → r ≡ o + length u
+
+-- a number of two bytes that passes a test, in plain decimal
+unfoldable pub numberFrom : (ℕ → Bool) → List ℕ → Option (List ℕ)
+numberFrom t body = wholly 2 body (λ n. when (t n) (some (decimal n)))
 
 -- the same for a base and its suffixes, in which some number of tuples may nest. The last two of what is asked follow from the first, and are there
 -- for `omega` to find

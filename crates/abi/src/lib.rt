@@ -5,13 +5,18 @@ use model::Refusal;
 use record::Checked;
 use record::Measured;
 use record::Spot;
+use sizes::BitWidth;
+use sizes::ByteLength;
+use sizes::CheckedLength;
+use sizes::CheckedWidth;
 ghost use mathlib.Core.Path.{_≡_};
 ghost use Prim.Native.Nat.{_+_, _≤_, _<_};
 ghost use lib.ListN.{length};
 ghost use Rattle.kinds.specs.Decimal.{decimal};
+ghost use Rattle.kinds.specs.Kind.{isBitWidth, isByteLength};
 ghost use Rattle.layout.specs.Buffer.{put};
 ghost use Rattle.record.specs.Texts.{elementaryFrom, suffixFrom, suffixesFrom};
-ghost use Rattle.abi.specs.Writes.{Room, Wrote, KindRoom, KindWrote, FieldRoom, FieldWrote, FieldsRoom, FieldsWrote};
+ghost use Rattle.abi.specs.Writes.{Room, Wrote, numberFrom, KindRoom, KindWrote, FieldRoom, FieldWrote, FieldsRoom, FieldsWrote};
 ghost use Rattle.model.specs.Answer.{said, outcome, after, handed, refusalNumber};
 ghost use Rattle.abi.specs.Lines.{LineRoom, LineWrote, Lined, LineEnds, Signed, SignatureEnds, Kinded, KindEnds, NameFound};
 ghost use Rattle.model.specs.Calls.{canonicalOutput, signatureOutput, kindTextOutput, nameOutput};
@@ -74,24 +79,47 @@ pub fn write_decimal(out: &mut [u8], o: usize, v: u64) -> usize
 
 // Kinds.
 
+// A bit width, by the two bytes of its record.
+fn write_width(body: &[u8], out: &mut [u8], o: usize) -> usize
+    requires { ⌜ Room (numberFrom isBitWidth (now body)) o (now out) ⌝ }
+    ensures { λ r. ⌜ Wrote (numberFrom isBitWidth (now (body .entry))) o (now (out .entry)) (now (out .exit)) r ⌝ }
+{
+    let c = BitWidth::new(layout::get2(body, 0) as u32);
+    match c {
+        CheckedWidth::Valid(w) => write_small(out, o, w.get() as usize),
+        CheckedWidth::Invalid => o,
+    }
+}
+
+// A byte length, by the two bytes of its record.
+fn write_byte_length(body: &[u8], out: &mut [u8], o: usize) -> usize
+    requires { ⌜ Room (numberFrom isByteLength (now body)) o (now out) ⌝ }
+    ensures { λ r. ⌜ Wrote (numberFrom isByteLength (now (body .entry))) o (now (out .entry)) (now (out .exit)) r ⌝ }
+{
+    let c = ByteLength::new(layout::get2(body, 0));
+    match c {
+        CheckedLength::Valid(n) => write_small(out, o, n.get()),
+        CheckedLength::Invalid => o,
+    }
+}
+
 // An elementary kind with a number, by its record's kind and body.
 fn write_numbered(k: usize, body: &[u8], out: &mut [u8], o: usize) -> usize
     requires { ⌜ Room (elementaryFrom k (now body)) o (now out) × (length (now body) ≡ 2) ⌝ }
     ensures { λ r. ⌜ Wrote (elementaryFrom k (now (body .entry))) o (now (out .entry)) (now (out .exit)) r ⌝ }
 {
-    let n = layout::get2(body, 0);
     match k {
         1 => {
             let p = write_word(out, o, b"int");
-            write_small(out, p, n)
+            write_width(body, out, p)
         }
         2 => {
             let p = write_word(out, o, b"uint");
-            write_small(out, p, n)
+            write_width(body, out, p)
         }
         5 => {
             let p = write_word(out, o, b"bytes");
-            write_small(out, p, n)
+            write_byte_length(body, out, p)
         }
         _ => o,
     }

@@ -24,14 +24,13 @@ use Rattle.model.proofs.Readers.{run-kind-of}
 use Rattle.layout.proofs.Writes.{wrote-none, wrote-put}
 use Rattle.value.specs.declared.Base.{Base}
 use Rattle.value.specs.declared.Base.the-variants as base
-use Rattle.value.specs.declared.BitWidth.{BitWidth}
-use Rattle.value.specs.declared.ByteLength.{ByteLength}
+use Rattle.sizes.specs.declared.BitWidth.{BitWidth}
+use Rattle.sizes.specs.declared.ByteLength.{ByteLength}
 use Rattle.value.specs.declared.RunKind.{RunKind}
 use Rattle.value.specs.declared.RunKind.the-variants as run
 use Rattle.value.specs.Elementary.{toElementary}
 use Rattle.value.specs.Run.{ReadIs, RunIs, LeafAt, LeafPut}
 use Rattle.value.proofs.Suffixing.{suffix-least}
-use Rattle.fields.specs.declared.Read.{Read}
 use Rattle.fields.specs.declared.Read.the-variants.{Got, Bad}
 use Rattle.fields.specs.Words.{NamedIs}
 use Rattle.fields.specs.Scratch.{toRead, bytesOf, Room, locatedBase, locatedBy, behindKind, leafOf, Put}

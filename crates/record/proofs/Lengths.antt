@@ -4,15 +4,23 @@ use mathlib.Core.Path.{_≡_, refl, sym, _∙_, ap}
 use mathlib.Core.Bool.{Bool, true, false}
 use mathlib.Core.List.{List, [], _∷_, _++_}
 use mathlib.Core.Option.{Option, none, some}
-use Prim.Native.Nat.{ℕ, _+_, _/_, _%_, _≤_, _<_}
+use Prim.Native.Nat.{ℕ, _+_, _/_, _≤_, _<_}
 use native.Mathlib.Omega.{arith}
 use lib.Dec.{eqb}
 use lib.ListN.{length, take, drop, length-append}
 use lib.Seq.{take-all}
-use borrow.Author.Tests.{le-leb, lt-leb, eq-eqb, ne-eqb, eqb-true}
+use borrow.Author.Tests.{eq-eqb, ne-eqb, eqb-true}
 use Rattle.kinds.specs.Decimal.{decimal}
-use Rattle.kinds.specs.Kind.{BitWidth, bits, octets, isBitWidth, isByteLength, Elementary, int, uint, fixedBytes, elementaryText, suffixText, sized, unsized}
+use Rattle.kinds.specs.Kind.{BitWidth as KindWidth, bits, octets, isBitWidth, isByteLength, Elementary, int, uint, fixedBytes, elementaryText, suffixText, sized, unsized}
 use Rattle.kinds.proofs.Decimal.{decimal-one, decimal-more, decimal-short}
+use Rattle.sizes.specs.declared.BitWidth.{BitWidth}
+use Rattle.sizes.specs.declared.ByteLength.{ByteLength}
+use Rattle.sizes.specs.declared.CheckedWidth.{CheckedWidth}
+use Rattle.sizes.specs.declared.CheckedWidth.the-variants as width
+use Rattle.sizes.specs.declared.CheckedLength.{CheckedLength}
+use Rattle.sizes.specs.declared.CheckedLength.the-variants as len
+use Rattle.sizes.specs.Checked.{checked, widthNumber, lengthNumber, widthOf, lengthOf}
+use Rattle.sizes.proofs.Checks.{checked-some, checked-none, width-there, no-width, length-there, no-length}
 use Rattle.model.specs.Layout.{leValue}
 use Rattle.model.specs.Record.{onOption, when, ended, wholly, Case, case, select, widthFrom, byteLengthFrom, elementaryCases, suffixCases, decodeElementary, decodeSuffix}
 use Rattle.model.proofs.Decoding.{Misses, select-other}
@@ -61,38 +69,29 @@ module _ (t : ℕ → Bool) (word : ℕ) (body : List ℕ) where
     all-of-it : leValue body ≡ n
     all-of-it = sym (e ∙ ap leValue (take-all 2 body (omega arith)))
 
-    numbered-no : t n ≡ false → 0 ≡ numbered t word body
+    numbered-no : checked t n ≡ none → 0 ≡ numbered t word body
     unfolding numbered
-    numbered-no f = rw (numbered, eq-eqb (length body) 2 h, all-of-it, f)
+    numbered-no f = rw (numbered, eq-eqb (length body) 2 h, all-of-it, checked-none t n f)
 
-    numbered-yes : (m : ℕ) → t n ≡ true → m ≡ length (decimal n) → word + m ≡ numbered t word body
+    numbered-yes : (v m : ℕ) → checked t n ≡ some v → m ≡ length (decimal v) → word + m ≡ numbered t word body
     unfolding numbered
-    numbered-yes m f g = rw (numbered, eq-eqb (length body) 2 h, all-of-it, f, all-of-it) (ap (λ x. word + x) g)
+    numbered-yes v m f g =
+        let (p, q) = checked-some t n v f in
+        rw (numbered, eq-eqb (length body) 2 h, all-of-it, p, all-of-it) (ap (λ x. word + x) (g ∙ ap (λ x. length (decimal x)) q))
 
+-- the same by the checks
 module _ (word : ℕ) (body : List ℕ) (n : ℕ) (h : length body ≡ 2) (e : n ≡ leValue (take 2 (drop 0 body))) where
-  pub width-most : n ≡ 256 → word + 3 ≡ numbered isBitWidth word body
-  width-most z = numbered-yes isBitWidth word body n h e 3 (rw z) (small-three n (omega arith) (omega arith))
+  pub width-no : (c : CheckedWidth) → widthOf c ≡ checked isBitWidth n → c ≡ width.Invalid → 0 ≡ numbered isBitWidth word body
+  width-no c f g = numbered-no isBitWidth word body n h e (no-width c n f g)
 
-  pub width-zero : n ≡ 0 → 0 ≡ numbered isBitWidth word body
-  width-zero z = numbered-no isBitWidth word body n h e (rw z)
+  pub width-is : (c : CheckedWidth) (w : BitWidth) (v m : ℕ) → widthOf c ≡ checked isBitWidth n → c ≡ width.Valid w → v ≡ widthNumber w → m ≡ length (decimal v) → word + m ≡ numbered isBitWidth word body
+  width-is c w v m f g i j = numbered-yes isBitWidth word body n h e v m (width-there c n f w v g i) j
 
-  pub width-large : 256 < n → 0 ≡ numbered isBitWidth word body
-  width-large l = numbered-no isBitWidth word body n h e (rw (le-leb 1 n (omega arith), lt-leb n 256 l))
+  pub byte-length-no : (c : CheckedLength) → lengthOf c ≡ checked isByteLength n → c ≡ len.Invalid → 0 ≡ numbered isByteLength word body
+  byte-length-no c f g = numbered-no isByteLength word body n h e (no-length c n f g)
 
-  pub width-odd : (n ≡ 0 → ⊥) → n ≤ 256 → (n % 8 ≡ 0 → ⊥) → 0 ≡ numbered isBitWidth word body
-  width-odd z l o = numbered-no isBitWidth word body n h e (rw (le-leb 1 n (omega arith), le-leb n 256 l, ne-eqb (n % 8) 0 o))
-
-  pub width-is : (m : ℕ) → (n ≡ 0 → ⊥) → n ≤ 256 → n % 8 ≡ 0 → m ≡ length (decimal n) → word + m ≡ numbered isBitWidth word body
-  width-is m z l o g = numbered-yes isBitWidth word body n h e m (rw (le-leb 1 n (omega arith), le-leb n 256 l, o)) g
-
-  pub byte-length-zero : n ≡ 0 → 0 ≡ numbered isByteLength word body
-  byte-length-zero z = numbered-no isByteLength word body n h e (rw z)
-
-  pub byte-length-large : 32 < n → 0 ≡ numbered isByteLength word body
-  byte-length-large l = numbered-no isByteLength word body n h e (rw (le-leb 1 n (omega arith), lt-leb n 32 l))
-
-  pub byte-length-is : (m : ℕ) → (n ≡ 0 → ⊥) → n ≤ 32 → m ≡ length (decimal n) → word + m ≡ numbered isByteLength word body
-  byte-length-is m z l g = numbered-yes isByteLength word body n h e m (rw (le-leb 1 n (omega arith), le-leb n 32 l)) g
+  pub byte-length-is : (c : CheckedLength) (l : ByteLength) (v m : ℕ) → lengthOf c ≡ checked isByteLength n → c ≡ len.Valid l → v ≡ lengthNumber l → m ≡ length (decimal v) → word + m ≡ numbered isByteLength word body
+  byte-length-is c l v m f g i j = numbered-yes isByteLength word body n h e v m (length-there c n f l v g i) j
 
 pub bare-is : (word : ℕ) (body : List ℕ) → length body ≡ 0 → word ≡ bare word body
 unfolding bare
@@ -190,11 +189,11 @@ module _ {A : Type 0} (k : ℕ) (body : List ℕ) where
       go true q e = m .0 (sym (eqb-true n k q))
       go false q e = e
 
-no-width : (f : BitWidth → Elementary) (body : List ℕ) → (length body ≡ 2 → ⊥) → widthFrom f body ≡ none
-no-width f body h = wholly-not 2 body (λ n. when (isBitWidth n) (some (f (bits n)))) h
+not-width : (f : KindWidth → Elementary) (body : List ℕ) → (length body ≡ 2 → ⊥) → widthFrom f body ≡ none
+not-width f body h = wholly-not 2 body (λ n. when (isBitWidth n) (some (f (bits n)))) h
 
-no-length : (body : List ℕ) → (length body ≡ 2 → ⊥) → byteLengthFrom body ≡ none
-no-length body h = wholly-not 2 body (λ n. when (isByteLength n) (some (fixedBytes (octets n)))) h
+not-length : (body : List ℕ) → (length body ≡ 2 → ⊥) → byteLengthFrom body ≡ none
+not-length body h = wholly-not 2 body (λ n. when (isByteLength n) (some (fixedBytes (octets n)))) h
 
 not-ended : {A : Type 0} (body : List ℕ) (a : A) → (length body ≡ 0 → ⊥) → ended body (some a) ≡ none
 not-ended [] a h = absurd (h refl)
@@ -212,11 +211,11 @@ module _ (k : ℕ) (body : List ℕ) where
 
   pub elementary-worded : (length body ≡ 2 → ⊥) → (k ≡ 3 → ⊥) → (k ≡ 4 → ⊥) → (k ≡ 6 → ⊥) → (k ≡ 7 → ⊥) → (k ≡ 8 → ⊥) → elementaryFrom k body ≡ none
   elementary-worded h a b c d e =
-      refused (λ _. no-width int body h, (λ _. no-width uint body h, (λ q. absurd (a q), (λ q. absurd (b q), (λ _. no-length body h, (λ q. absurd (c q), (λ q. absurd (d q), (λ q. absurd (e q), tt))))))))
+      refused (λ _. not-width int body h, (λ _. not-width uint body h, (λ q. absurd (a q), (λ q. absurd (b q), (λ _. not-length body h, (λ q. absurd (c q), (λ q. absurd (d q), (λ q. absurd (e q), tt))))))))
 
   pub elementary-odd : (length body ≡ 2 → ⊥) → (length body ≡ 0 → ⊥) → elementaryFrom k body ≡ none
   elementary-odd h z =
-      refused (λ _. no-width int body h, (λ _. no-width uint body h, (λ _. not-ended body _ z, (λ _. not-ended body _ z, (λ _. no-length body h, (λ _. not-ended body _ z, (λ _. not-ended body _ z, (λ _. not-ended body _ z, tt))))))))
+      refused (λ _. not-width int body h, (λ _. not-width uint body h, (λ _. not-ended body _ z, (λ _. not-ended body _ z, (λ _. not-length body h, (λ _. not-ended body _ z, (λ _. not-ended body _ z, (λ _. not-ended body _ z, tt))))))))
 
 pub measured-none : (t : Option (List ℕ)) → t ≡ none → 0 ≡ measured t
 unfolding measured
@@ -242,4 +241,4 @@ module _ (k : ℕ) (body : List ℕ) where
   unfolding suffixFrom decodeSuffix measured
   suffix-other g h = ap (λ T. measured (onOption suffixText (T body))) (sym (select-other k suffixCases (λ _. none) (g, (h, tt))))
 
-pub ruleset lengths = (counted-start, counted-next, counted-end, counted-small, small-one, small-two, small-three, numbered-not, width-most, width-zero, width-large, width-odd, width-is, byte-length-zero, byte-length-large, byte-length-is, bare-is, bare-not, elementary-int, elementary-uint, elementary-fixed, worded-address, worded-bool, worded-function, worded-bytes, worded-string, suffix-sized, suffix-odd, suffix-open, suffix-other)
+pub ruleset lengths = (counted-start, counted-next, counted-end, counted-small, small-one, small-two, small-three, numbered-not, width-no, width-is, byte-length-no, byte-length-is, bare-is, bare-not, elementary-int, elementary-uint, elementary-fixed, worded-address, worded-bool, worded-function, worded-bytes, worded-string, suffix-sized, suffix-odd, suffix-open, suffix-other)

@@ -6,6 +6,10 @@ use model::Keyword;
 use model::MEMORY;
 use model::Sort;
 use model::UNMARKED;
+use sizes::BitWidth;
+use sizes::ByteLength;
+use sizes::CheckedLength;
+use sizes::CheckedWidth;
 ghost use mathlib.Core.Path.{_≡_};
 ghost use Prim.Native.Nat.{_+_, _*_, _-_, _≤_, _<_};
 ghost use lib.ListN.{length, take, drop};
@@ -69,20 +73,11 @@ fn width(word: usize, body: &[u8]) -> usize
     ensures { λ r. ⌜ (r ≡ numbered isBitWidth word (now (body .entry))) × (r ≤ word + 3) ⌝ }
 {
     if body.len() == 2 {
-        let n = layout::get2(body, 0);
-        if n == 256 {
-            return word + 3;
-        }
-        if n == 0 {
-            return 0;
-        }
-        if 256 < n {
-            return 0;
-        }
-        if n % 8 == 0 {
-            return word + small_length(n);
-        }
-        return 0;
+        let c = BitWidth::new(layout::get2(body, 0) as u32);
+        return match c {
+            CheckedWidth::Valid(w) => word + small_length(w.get() as usize),
+            CheckedWidth::Invalid => 0,
+        };
     }
     0
 }
@@ -93,14 +88,11 @@ fn byte_length(word: usize, body: &[u8]) -> usize
     ensures { λ r. ⌜ (r ≡ numbered isByteLength word (now (body .entry))) × (r ≤ word + 3) ⌝ }
 {
     if body.len() == 2 {
-        let n = layout::get2(body, 0);
-        if n == 0 {
-            return 0;
-        }
-        if 32 < n {
-            return 0;
-        }
-        return word + small_length(n);
+        let c = ByteLength::new(layout::get2(body, 0));
+        return match c {
+            CheckedLength::Valid(n) => word + small_length(n.get()),
+            CheckedLength::Invalid => 0,
+        };
     }
     0
 }

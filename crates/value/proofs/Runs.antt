@@ -9,7 +9,7 @@ use lib.Seq.{take-length, drop-length, take-take, length-take-le, drop-at}
 use Rattle.kinds.specs.Bytes.{lbracket, rbracket}
 use Rattle.kinds.specs.Kind.{Suffix, sized, unsized}
 use Rattle.model.specs.declared.Refusal.{Refusal}
-use Rattle.model.specs.KindText.{Result, ok, err, onResult, inside, peeled, peel, Spelled, addSuffix, unsuffixed, elementaryOf, fromStr}
+use Rattle.model.specs.KindText.{Result, ok, err, onResult, peeled, peel, Spelled, addSuffix, unsuffixed, elementaryOf, fromStr}
 use Rattle.model.specs.Layout.{littleEndian}
 use Rattle.model.specs.Record.{encodeSuffix, encodeSuffixes}
 use Rattle.model.proofs.Bounds.{record-size}

@@ -1,14 +1,13 @@
--- Widths, byte lengths and the kinds that have them, by the tests that the code makes.
+-- The numbers behind `int`, `uint` and `bytes`, and the kinds that have them.
 -- Assumes nothing.
 use mathlib.Core.Path.{_≡_, refl, sym, _∙_, ap}
 use mathlib.Core.Bool.{Bool, true}
 use mathlib.Core.List.{List, [], _∷_}
 use mathlib.Core.Option.{Option, none, some}
-use Prim.Native.Nat.{ℕ, zero, suc, _%_, _≤_, _<_}
+use Prim.Native.Nat.{ℕ, _≤_}
 use native.Mathlib.Omega.{arith}
 use lib.ListN.{length}
-use borrow.Author.Tests.{le-leb, lt-leb, ne-eqb}
-use Rattle.kinds.specs.Kind.{BitWidth as KindWidth, Elementary, int, uint}
+use Rattle.kinds.specs.Kind.{BitWidth as KindWidth, isBitWidth, isByteLength, Elementary, int, uint}
 use Rattle.kinds.specs.Bytes.{ascii, same}
 use Rattle.kinds.specs.Decimal.{unsigned, plain, number}
 use Rattle.kinds.proofs.Logic.{same-equal}
@@ -17,66 +16,38 @@ use Rattle.model.specs.declared.Refusal.the-variants.{InvalidBitWidth, InvalidB
 use Rattle.text.specs.Found.{toOption}
 use Rattle.text.specs.declared.Maybe.{Maybe}
 use Rattle.text.specs.declared.Maybe.the-variants.{Value, Absent}
-use Rattle.value.specs.declared.BitWidth.{BitWidth}
-use Rattle.value.specs.declared.ByteLength.{ByteLength}
-use Rattle.value.specs.declared.CheckedWidth.{CheckedWidth}
-use Rattle.value.specs.declared.CheckedWidth.the-variants as width
-use Rattle.value.specs.declared.CheckedLength.{CheckedLength}
-use Rattle.value.specs.declared.CheckedLength.the-variants as len
+use Rattle.sizes.specs.declared.BitWidth.{BitWidth}
+use Rattle.sizes.specs.declared.ByteLength.{ByteLength}
+use Rattle.sizes.specs.declared.CheckedWidth.{CheckedWidth}
+use Rattle.sizes.specs.declared.CheckedWidth.the-variants as width
+use Rattle.sizes.specs.declared.CheckedLength.{CheckedLength}
+use Rattle.sizes.specs.declared.CheckedLength.the-variants as len
+use Rattle.sizes.specs.Checked.{checked, widthOf, lengthOf}
 use Rattle.value.specs.declared.Base.the-variants as base
 use Rattle.value.specs.declared.Spelled.the-variants as spelled
-use Rattle.value.specs.Elementary.{toElementary, toResult, widthNumber, lengthNumber, ofWidth, ofLength, widthOf, checkedWidth, lengthOf, checkedLength, checkedBy, widthBehind, lengthBehind}
-
-pub width-low : (n : ℕ) → n < 8 → widthOf width.Invalid ≡ checkedWidth n
-unfolding widthOf checkedWidth
-width-low zero h = refl
-width-low (suc n) h = rw (checkedWidth, le-leb 1 (suc n) (omega arith), le-leb (suc n) 256 (omega arith), ne-eqb (suc n % 8) 0 (λ e. omega arith))
-
-pub width-high : (n : ℕ) → 8 ≤ n → 256 < n → widthOf width.Invalid ≡ checkedWidth n
-unfolding widthOf checkedWidth
-width-high n h k = rw (checkedWidth, le-leb 1 n (omega arith), lt-leb n 256 k)
-
-pub width-valid : (w : BitWidth) → 8 ≤ widthNumber w → widthNumber w ≤ 256 → widthNumber w % 8 ≡ 0 → widthOf (width.Valid w) ≡ checkedWidth (widthNumber w)
-unfolding widthOf checkedWidth
-width-valid w h k e = rw (checkedWidth, le-leb 1 (widthNumber w) (omega arith), le-leb (widthNumber w) 256 k, e)
-
-pub width-odd : (n : ℕ) → 8 ≤ n → n ≤ 256 → (n % 8 ≡ 0 → ⊥) → widthOf width.Invalid ≡ checkedWidth n
-unfolding widthOf checkedWidth
-width-odd n h k e = rw (checkedWidth, le-leb 1 n (omega arith), le-leb n 256 k, ne-eqb (n % 8) 0 e)
-
-pub length-low : (n : ℕ) → n < 1 → lengthOf len.Invalid ≡ checkedLength n
-unfolding lengthOf checkedLength
-length-low n h = rw (checkedLength, lt-leb 1 n h)
-
-pub length-high : (n : ℕ) → 1 ≤ n → 32 < n → lengthOf len.Invalid ≡ checkedLength n
-unfolding lengthOf checkedLength
-length-high n h k = rw (checkedLength, le-leb 1 n h, lt-leb n 32 k)
-
-pub length-valid : (n : ByteLength) → 1 ≤ lengthNumber n → lengthNumber n ≤ 32 → lengthOf (len.Valid n) ≡ checkedLength (lengthNumber n)
-unfolding lengthOf checkedLength
-length-valid n h k = rw (checkedLength, le-leb 1 (lengthNumber n) h, le-leb (lengthNumber n) 32 k)
+use Rattle.value.specs.Elementary.{toElementary, toResult, ofWidth, ofLength, checkedBy, widthBehind, lengthBehind}
 
 -- the number behind a word
 module _ (t : List ℕ) where
-  pub behind-none : (r : CheckedWidth) → length t ≡ 0 → widthOf r ≡ checkedWidth 256 → widthOf r ≡ widthBehind t
-  unfolding widthBehind checkedWidth
+  pub behind-none : (r : CheckedWidth) → length t ≡ 0 → widthOf r ≡ checked isBitWidth 256 → widthOf r ≡ widthBehind t
+  unfolding widthBehind checked
   behind-none r h e = go t h
     where
       go : (u : List ℕ) → length u ≡ 0 → widthOf r ≡ widthBehind u
       go [] k = e
       go (c ∷ u) k = absurd (omega arith)
 
-  pub behind-widest : (q : Bool) (r : CheckedWidth) → q ≡ same (ascii "256") t → q ≡ true → widthOf r ≡ checkedWidth 256 → widthOf r ≡ widthBehind t
+  pub behind-widest : (q : Bool) (r : CheckedWidth) → q ≡ same (ascii "256") t → q ≡ true → widthOf r ≡ checked isBitWidth 256 → widthOf r ≡ widthBehind t
   unfolding widthBehind number plain unsigned
   behind-widest q r e f g =
-      let widest : checkedWidth 256 ≡ widthBehind (ascii "256") = refl in
+      let widest : checked isBitWidth 256 ≡ widthBehind (ascii "256") = refl in
       g ∙ widest ∙ ap widthBehind (same-equal (ascii "256") t .0 (sym e ∙ f))
 
-  behind : (n : Maybe) (o : Option ℕ) → (length t ≡ 0 → ⊥) → toOption n ≡ number 256 t → toOption n ≡ o → widthBehind t ≡ checkedBy checkedWidth o
+  behind : (n : Maybe) (o : Option ℕ) → (length t ≡ 0 → ⊥) → toOption n ≡ number 256 t → toOption n ≡ o → widthBehind t ≡ checkedBy (checked isBitWidth) o
   unfolding widthBehind
   behind n o z e f = go t z (sym e ∙ f)
     where
-      go : (u : List ℕ) → (length u ≡ 0 → ⊥) → number 256 u ≡ o → widthBehind u ≡ checkedBy checkedWidth o
+      go : (u : List ℕ) → (length u ≡ 0 → ⊥) → number 256 u ≡ o → widthBehind u ≡ checkedBy (checked isBitWidth) o
       go [] y g = absurd (y refl)
       go (c ∷ u) y g = rw g
 
@@ -84,7 +55,7 @@ module _ (t : List ℕ) where
   unfolding toOption widthOf
   behind-absent n z e f = sym (behind n none z e (rw f))
 
-  pub behind-value : (n : Maybe) (v : ℕ) (r : CheckedWidth) → (length t ≡ 0 → ⊥) → toOption n ≡ number 256 t → n ≡ Value v → widthOf r ≡ checkedWidth v → widthOf r ≡ widthBehind t
+  pub behind-value : (n : Maybe) (v : ℕ) (r : CheckedWidth) → (length t ≡ 0 → ⊥) → toOption n ≡ number 256 t → n ≡ Value v → widthOf r ≡ checked isBitWidth v → widthOf r ≡ widthBehind t
   unfolding toOption
   behind-value n v r z e f g = g ∙ sym (behind n (some v) z e (rw f))
 
@@ -97,7 +68,7 @@ module _ (t : List ℕ) where
   unfolding toOption lengthOf lengthBehind
   length-absent n e f = rw (← e, f)
 
-  pub length-value : (n : Maybe) (v : ℕ) (r : CheckedLength) → toOption n ≡ number 32 t → n ≡ Value v → lengthOf r ≡ checkedLength v → lengthOf r ≡ lengthBehind t
+  pub length-value : (n : Maybe) (v : ℕ) (r : CheckedLength) → toOption n ≡ number 32 t → n ≡ Value v → lengthOf r ≡ checked isByteLength v → lengthOf r ≡ lengthBehind t
   unfolding toOption lengthBehind
   length-value n v r e f g = g ∙ rw (← e, f)
 
@@ -124,4 +95,4 @@ module _ (l : CheckedLength) where
   unfolding lengthOf toResult
   of-no-length e = rw e
 
-pub ruleset widths = (behind-widest, width-low, width-high, width-valid, width-odd, length-low, length-high, length-valid, behind-none, behind-absent, behind-value, length-absent, length-value, of-int, of-uint, of-no-width, of-length, of-no-length)
+pub ruleset widths = (behind-widest, behind-none, behind-absent, behind-value, length-absent, length-value, of-int, of-uint, of-no-width, of-length, of-no-length)

@@ -10,7 +10,7 @@ use lib.ListN.{length, take, drop, length-take, length-drop, take-append-drop}
 use lib.Seq.{take-all}
 use Rattle.kinds.specs.Bytes.{ascii, same}
 use Rattle.kinds.specs.Decimal.{number}
-use Rattle.kinds.specs.Kind.{BitWidth as KindWidth, Elementary, int, uint, address, bool, function, bytes, string, isBitWidth, isByteLength}
+use Rattle.kinds.specs.Kind.{BitWidth as KindWidth, Elementary, int, uint, bytes, isBitWidth, isByteLength}
 use Rattle.kinds.proofs.Logic.{same-self, same-equal, same-unequal}
 use Rattle.model.specs.declared.Refusal.the-variants.{Unknown}
 use Rattle.model.specs.KindText.{ok, starts, width, byteLength, withNumber, elementaryOf}
@@ -18,9 +18,11 @@ use Rattle.model.proofs.Scans.{part-rest}
 use Rattle.value.specs.declared.Base.the-variants as base
 use Rattle.value.specs.declared.Spelled.{Spelled}
 use Rattle.value.specs.declared.Spelled.the-variants as spelled
-use Rattle.value.specs.declared.CheckedWidth.{CheckedWidth}
-use Rattle.value.specs.declared.CheckedLength.{CheckedLength}
-use Rattle.value.specs.Elementary.{toElementary, toResult, widthOf, lengthOf, checkedWidth, checkedLength, checkedBy, widthBehind, lengthBehind, ofWidth, ofLength}
+use Rattle.sizes.specs.declared.CheckedWidth.{CheckedWidth}
+use Rattle.sizes.specs.declared.CheckedLength.{CheckedLength}
+use Rattle.sizes.specs.Checked.{checked, widthOf, lengthOf}
+use Rattle.sizes.proofs.Checks.{checked-true, checked-false}
+use Rattle.value.specs.Elementary.{toElementary, toResult, checkedBy, widthBehind, lengthBehind, ofWidth, ofLength}
 
 -- a text that begins with a word is the word and what is left
 split : (w t : List ℕ) → starts w t ≡ true → t ≡ w ++ drop (length w) t
@@ -31,23 +33,21 @@ pub starts-long : (w t : List ℕ) (r : Bool) → r ≡ starts w t → r ≡ tru
 starts-long w t r e f = omega (arith, ap length (same-equal w (take (length w) t) .0 (sym e ∙ f)), length-take (length w) t)
 
 -- a number that is checked, and its kind
-width-of : (f : KindWidth → Elementary) (o : Option ℕ) → ofWidth f (checkedBy checkedWidth o) ≡ width f o
-unfolding checkedWidth
+width-of : (f : KindWidth → Elementary) (o : Option ℕ) → ofWidth f (checkedBy (checked isBitWidth) o) ≡ width f o
 width-of f none = refl
 width-of f (some n) = go (isBitWidth n) refl
   where
-    go : (b : Bool) → isBitWidth n ≡ b → ofWidth f (checkedWidth n) ≡ width f (some n)
-    go true e = rw (checkedWidth, width, e)
-    go false e = rw (checkedWidth, width, e)
+    go : (b : Bool) → isBitWidth n ≡ b → ofWidth f (checked isBitWidth n) ≡ width f (some n)
+    go true e = rw (checked-true isBitWidth n e, width, e)
+    go false e = rw (checked-false isBitWidth n e, width, e)
 
-length-of : (o : Option ℕ) → ofLength (checkedBy checkedLength o) ≡ byteLength o
-unfolding checkedLength
+length-of : (o : Option ℕ) → ofLength (checkedBy (checked isByteLength) o) ≡ byteLength o
 length-of none = refl
 length-of (some n) = go (isByteLength n) refl
   where
-    go : (b : Bool) → isByteLength n ≡ b → ofLength (checkedLength n) ≡ byteLength (some n)
-    go true e = rw (checkedLength, byteLength, e)
-    go false e = rw (checkedLength, byteLength, e)
+    go : (b : Bool) → isByteLength n ≡ b → ofLength (checked isByteLength n) ≡ byteLength (some n)
+    go true e = rw (checked-true isByteLength n e, byteLength, e)
+    go false e = rw (checked-false isByteLength n e, byteLength, e)
 
 uint-text : (u : List ℕ) → ofWidth uint (widthBehind u) ≡ elementaryOf (ascii "uint" ++ u)
 unfolding elementaryOf widthBehind withNumber

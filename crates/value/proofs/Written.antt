@@ -12,9 +12,10 @@ use Rattle.layout.specs.Buffer.{put, head}
 use Rattle.layout.proofs.Puts.{put-then, length-head, length-two, headed}
 use Rattle.value.specs.declared.Base.{Base}
 use Rattle.value.specs.declared.Base.the-variants as base
-use Rattle.value.specs.declared.BitWidth.{BitWidth}
-use Rattle.value.specs.declared.ByteLength.{ByteLength}
-use Rattle.value.specs.Elementary.{toElementary, widthNumber, lengthNumber}
+use Rattle.sizes.specs.declared.BitWidth.{BitWidth}
+use Rattle.sizes.specs.declared.ByteLength.{ByteLength}
+use Rattle.sizes.specs.Checked.{widthNumber, lengthNumber}
+use Rattle.value.specs.Elementary.{toElementary}
 
 -- how many bytes a base takes
 module _ (b : Base) where

@@ -1,43 +1,17 @@
 -- What the enums for elementary kinds say, by the definitions.
 -- Assumes nothing.
-use mathlib.Core.Bool.{Bool, true, false}
 use mathlib.Core.List.{List, [], _∷_}
 use mathlib.Core.Option.{Option, none, some}
 use Prim.Native.Nat.{ℕ}
 use Rattle.kinds.specs.Kind.{BitWidth as KindWidth, bits, octets, isBitWidth, isByteLength, Elementary, int, uint, fixedBytes, address, bool, function, bytes, string}
 use Rattle.kinds.specs.Decimal.{number}
+use Rattle.sizes.specs.Checked.{checked, widthNumber, lengthNumber}
 use Rattle.model.specs.declared.Refusal.the-variants.{InvalidBitWidth, InvalidByteLength}
 use Rattle.model.specs.KindText.{Result, ok, err}
-use Rattle.value.specs.declared.BitWidth.{BitWidth}
-use Rattle.value.specs.declared.ByteLength.{ByteLength}
-use Rattle.value.specs.declared.CheckedWidth.{CheckedWidth}
-use Rattle.value.specs.declared.CheckedWidth.the-variants as width
-use Rattle.value.specs.declared.CheckedLength.{CheckedLength}
-use Rattle.value.specs.declared.CheckedLength.the-variants as len
 use Rattle.value.specs.declared.Base.{Base}
 use Rattle.value.specs.declared.Base.the-variants as base
 use Rattle.value.specs.declared.Spelled.{Spelled}
 use Rattle.value.specs.declared.Spelled.the-variants as spelled
-
-abbrev pub widthNumber : BitWidth → ℕ
-widthNumber w = w .0
-
-abbrev pub lengthNumber : ByteLength → ℕ
-lengthNumber n = n .0
-
-unfoldable pub widthOf : CheckedWidth → Option ℕ
-widthOf (width.Valid w) = some (widthNumber w)
-widthOf width.Invalid = none
-
-unfoldable pub checkedWidth : ℕ → Option ℕ
-checkedWidth n = elim (isBitWidth n) [ true ↦ some n | false ↦ none ]
-
-unfoldable pub lengthOf : CheckedLength → Option ℕ
-lengthOf (len.Valid n) = some (lengthNumber n)
-lengthOf len.Invalid = none
-
-unfoldable pub checkedLength : ℕ → Option ℕ
-checkedLength n = elim (isByteLength n) [ true ↦ some n | false ↦ none ]
 
 unfoldable pub toElementary : Base → Elementary
 toElementary (base.Int w) = int (bits (widthNumber w))
@@ -61,11 +35,11 @@ checkedBy f (some n) = f n
 -- the width behind `int` or `uint`: 256 where there is none
 unfoldable pub widthBehind : List ℕ → Option ℕ
 widthBehind [] = some 256
-widthBehind (c ∷ t) = checkedBy checkedWidth (number 256 (c ∷ t))
+widthBehind (c ∷ t) = checkedBy (checked isBitWidth) (number 256 (c ∷ t))
 
 -- the length behind `bytes`
 unfoldable pub lengthBehind : List ℕ → Option ℕ
-lengthBehind t = checkedBy checkedLength (number 32 t)
+lengthBehind t = checkedBy (checked isByteLength) (number 32 t)
 
 -- the kind of a width and of a length that may be absent
 abbrev pub ofWidth : (KindWidth → Elementary) → Option ℕ → Result Elementary

@@ -1,5 +1,9 @@
 // Kinds as `ValueKind::from_str` reads them, written as records.
 use model::Refusal;
+use sizes::BitWidth;
+use sizes::ByteLength;
+use sizes::CheckedLength;
+use sizes::CheckedWidth;
 use text::Maybe;
 ghost use mathlib.Core.Path.{_≡_};
 ghost use Prim.Native.Nat.{_+_, _≤_, _<_};
@@ -11,69 +15,9 @@ ghost use Rattle.model.specs.Record.{encodeElementary};
 ghost use Rattle.layout.specs.Buffer.{put};
 ghost use Rattle.model.specs.Text.{span, one};
 ghost use Rattle.value.specs.Run.{RunIs, notShut, SuffixAt, SuffixPut, SuffixesAt, SuffixesPut, LeafAt, LeafPut};
-ghost use Rattle.value.specs.Elementary.{toElementary, widthOf, checkedWidth, lengthOf, checkedLength, toResult, widthNumber, lengthNumber, widthBehind, lengthBehind, ofWidth, ofLength};
+ghost use Rattle.sizes.specs.Checked.{widthOf, lengthOf};
+ghost use Rattle.value.specs.Elementary.{toElementary, toResult, widthBehind, lengthBehind, ofWidth, ofLength};
 ghost use Rattle.kinds.specs.Kind.{int as intKind, uint as uintKind};
-
-// A bit width of `int` and `uint`, made by its check alone.
-pub struct BitWidth(u32);
-
-// A byte length of `bytes`, made by its check alone.
-pub struct ByteLength(usize);
-
-pub enum CheckedWidth {
-    Valid(BitWidth),
-    Invalid,
-}
-
-pub enum CheckedLength {
-    Valid(ByteLength),
-    Invalid,
-}
-
-impl BitWidth {
-    // Bit widths are multiples of 8 from 8 to 256.
-    pub fn new(bit_width: u32) -> CheckedWidth
-        ensures { λ r. ⌜ widthOf r ≡ checkedWidth «bit_width» ⌝ }
-    {
-        if bit_width < 8 {
-            return CheckedWidth::Invalid;
-        }
-        if 256 < bit_width {
-            return CheckedWidth::Invalid;
-        }
-        if bit_width % 8 == 0 {
-            return CheckedWidth::Valid(BitWidth(bit_width));
-        }
-        CheckedWidth::Invalid
-    }
-
-    pub fn get(self) -> u32
-        ensures { λ r. ⌜ r ≡ widthNumber self ⌝ }
-    {
-        self.0
-    }
-}
-
-impl ByteLength {
-    // Byte lengths go from 1 to 32.
-    pub fn new(len: usize) -> CheckedLength
-        ensures { λ r. ⌜ lengthOf r ≡ checkedLength len ⌝ }
-    {
-        if len < 1 {
-            return CheckedLength::Invalid;
-        }
-        if 32 < len {
-            return CheckedLength::Invalid;
-        }
-        CheckedLength::Valid(ByteLength(len))
-    }
-
-    pub fn get(self) -> usize
-        ensures { λ r. ⌜ r ≡ lengthNumber self ⌝ }
-    {
-        self.0
-    }
-}
 
 // A kind that holds no kind.
 pub enum Base {

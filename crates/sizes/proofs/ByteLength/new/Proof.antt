@@ -1,0 +1,16 @@
+use borrow.Author.Needs.{needs}
+use Rattle.sizes.proofs.Checks.{checks}
+use Rattle.sizes.proofs.ByteLength.new.Statement.{statement}
+use Rattle.sizes.proofs.ByteLength.new.Tie as tie
+
+returns : tie.Need-returns
+returns c = search (needs, checks)
+
+returns-2 : tie.Need-returns-2
+returns-2 c = search (needs, checks)
+
+returns-3 : tie.Need-returns-3
+returns-3 c = search (needs, checks)
+
+pub new-spec : {M : Type 1} → statement M
+new-spec = tie.close (tie.spec returns returns-2 returns-3)
