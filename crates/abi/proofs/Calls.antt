@@ -22,7 +22,8 @@ use Rattle.model.specs.Line.{canonicalText, signatureText, fieldText, nameOf, f
 use Rattle.model.specs.Answer.{writes, refuses, refusalNumber, handed, number}
 use Rattle.model.specs.Calls.{orWrongSort, ofRecord, canonicalOutput, signatureOutput, kindTextOutput, nameOutput}
 use Rattle.model.proofs.Decoding.{when-some}
-use Rattle.layout.proofs.Answers.{Ends, ends-refused}
+use Rattle.layout.specs.Answers.{Ends}
+use Rattle.layout.proofs.Answers.{ends-refused}
 use Rattle.record.specs.declared.Spot.{Spot}
 use Rattle.record.specs.declared.Measured.{Measured}
 use Rattle.record.specs.declared.Checked.{Checked}

@@ -18,7 +18,7 @@ use Rattle.record.specs.Says.{NameSaid, ListSaid, KindSaid}
 use Rattle.model.specs.declared.Answer.{Answer}
 use Rattle.model.specs.Answer.{writes, handed, refusalNumber}
 use Rattle.model.specs.Calls.{nameOutput}
-use Rattle.layout.proofs.Answers.{Ends}
+use Rattle.layout.specs.Answers.{Ends}
 use Rattle.abi.specs.Writes.{Room, Wrote, FieldsRoom}
 
 -- a name from a place of the record up to another and a list likewise, with room for the line at the front

@@ -12,14 +12,13 @@ use borrow.Author.Tests.{lt-ltb, le-ltb, eq-eqb, ne-eqb}
 use Rattle.kinds.specs.Bytes.{ascii, same, isWord}
 use Rattle.model.specs.declared.Keyword.{Keyword}
 use Rattle.model.specs.declared.Keyword.the-variants as key
-use Rattle.model.specs.Text.{peek}
+use Rattle.model.specs.Text.{first, peek}
 use Rattle.model.specs.Tree.{notStated}
 use Rattle.model.specs.KindText.{Entry, lookup}
 use Rattle.model.specs.Parser.{got, then, word, wordEnd, keywordOf, option}
 use Rattle.model.specs.Reading.{mutabilities, visibilities, visibility, modifiers}
 use Rattle.model.specs.Record.{isAbsent}
 use Rattle.model.proofs.Bounds.{In, Entries, lookup-of}
-use Rattle.model.proofs.Stands.{first}
 use Rattle.model.proofs.Modifiers.{listed, one-sort, word-first}
 use Rattle.text.specs.Found.{Skipped}
 use Rattle.fields.specs.Words.{WordIs, orNone}

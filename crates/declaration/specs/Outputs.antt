@@ -16,7 +16,7 @@ use Rattle.model.specs.Calls.{written}
 use Rattle.declaration.specs.declared.Admitted.{Admitted}
 use Rattle.declaration.specs.declared.Admitted.the-variants.{Whole as Admits, Not}
 use Rattle.fields.specs.declared.Read.{Read}
-use Rattle.layout.proofs.Answers.{Ends}
+use Rattle.layout.specs.Answers.{Ends}
 use Rattle.declaration.specs.Stages.{Whole}
 
 -- what is read of an admitted text, where a keyword is wanted

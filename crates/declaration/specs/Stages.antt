@@ -12,12 +12,12 @@ use Rattle.model.specs.declared.Keyword.the-variants as key
 use Rattle.model.specs.declared.Sort.{Sort}
 use Rattle.model.specs.declared.Sort.the-variants.{Plain, Parameter, Event}
 use Rattle.model.specs.Tree.{notStated, isPayable}
+use Rattle.model.specs.Text.{first}
 use Rattle.model.specs.KindText.{Entry, entry, lookup}
 use Rattle.model.specs.Parser.{Ans, got, onAns, then, ident, keyword, option, end}
 use Rattle.model.specs.Reading.{fields, mutabilities, visibilities, visibility, modifiers, returns, keywordText}
 use Rattle.model.specs.Layout.{littleEndian, recordOf}
 use Rattle.model.specs.Record.{encodeName, encodeList, isAbsent}
-use Rattle.model.proofs.Stands.{first}
 use Rattle.layout.specs.Buffer.{head, Wrote}
 use Rattle.fields.specs.declared.Read.{Read}
 use Rattle.fields.specs.declared.Read.the-variants.{Got, Bad, Deep}

@@ -32,7 +32,8 @@ use Rattle.model.proofs.Decoding.{select-other}
 use Rattle.model.proofs.Records.{inputs-spells, decode-exactly}
 use Rattle.model.proofs.Scans.{part-rest}
 use Rattle.model.proofs.Lengths.{full-short}
-use Rattle.layout.proofs.Answers.{Ends, ends-refused}
+use Rattle.layout.specs.Answers.{Ends}
+use Rattle.layout.proofs.Answers.{ends-refused}
 use Rattle.record.specs.declared.Spot.{Spot}
 use Rattle.record.specs.declared.Measured.{Measured}
 use Rattle.record.specs.declared.Checked.{Checked}

@@ -12,7 +12,7 @@ use Rattle.model.specs.Record.{longestRecord}
 use Rattle.model.specs.Full.{bracketed, returnsText}
 use Rattle.model.specs.declared.Answer.{Answer}
 use Rattle.model.specs.Answer.{writes}
-use Rattle.layout.proofs.Answers.{Ends}
+use Rattle.layout.specs.Answers.{Ends}
 use Rattle.record.specs.declared.Spot.{Spot}
 use Rattle.record.specs.declared.Measured.{Measured}
 use Rattle.record.specs.Says.{NameSaid}

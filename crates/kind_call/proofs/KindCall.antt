@@ -19,7 +19,8 @@ use Rattle.model.specs.Record.{encodeElementary, encodeField}
 use Rattle.model.specs.Answer.{writes, refuses}
 use Rattle.model.specs.Calls.{written, readKind, kindOutput}
 use Rattle.model.proofs.Bounds.{field-size}
-use Rattle.layout.proofs.Answers.{Ends, ends-refused, ends-full, ends-written}
+use Rattle.layout.specs.Answers.{Ends}
+use Rattle.layout.proofs.Answers.{ends-refused, ends-full, ends-written}
 use Rattle.value.specs.declared.Base.{Base}
 use Rattle.value.specs.declared.RunKind.{RunKind}
 use Rattle.value.specs.declared.RunKind.the-variants as run

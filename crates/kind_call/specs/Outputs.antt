@@ -11,7 +11,7 @@ use Rattle.model.specs.Reading.{fieldBy, tupleKind, deepest}
 use Rattle.model.specs.Record.{encodeField}
 use Rattle.model.specs.Answer.{Output}
 use Rattle.model.specs.Calls.{written, loneField, allOf, readTuple}
-use Rattle.layout.proofs.Answers.{Ends}
+use Rattle.layout.specs.Answers.{Ends}
 use Rattle.fields.specs.declared.Read.{Read}
 use Rattle.fields.specs.Scratch.{Put, fieldOf}
 

@@ -15,11 +15,8 @@ use Rattle.model.specs.declared.Refusal.the-variants.{NoRoom}
 use Rattle.model.specs.declared.Answer.{Answer}
 use Rattle.model.specs.declared.Answer.the-variants.{Accepted, Refused}
 use Rattle.model.specs.Answer.{accepted, refused, Output, writes, refuses, number, said, needed, outcome, after}
+use Rattle.layout.specs.Answers.{Ends}
 use Rattle.layout.specs.Buffer.{put}
-
--- the two halves of a call's contract: what it says, and all of the lent buffer at exit
-abbrev pub Ends : Output → List ℕ → List ℕ → Answer → Type 0
-Ends o b b₁ r = (said r ≡ outcome (length b) o) × (b₁ ≡ after b o)
 
 module _ (o : Output) (b : List ℕ) (r : Answer) where
   pub ends-refused : (w : Refusal) (p : ℕ) → r ≡ Refused w p → o ≡ refuses w p → Ends o b b r

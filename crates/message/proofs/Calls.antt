@@ -21,7 +21,8 @@ use Rattle.model.specs.Record.{encode}
 use Rattle.model.specs.Answer.{Output, writes, accepted, refused, number, said, outcome, after}
 use Rattle.model.specs.Calls.{written, readOutput}
 use Rattle.model.specs.Message.{wording, messageText, messageBy, messageOf, messageOutput}
-use Rattle.layout.proofs.Answers.{Ends, ends-written}
+use Rattle.layout.specs.Answers.{Ends}
+use Rattle.layout.proofs.Answers.{ends-written}
 use Rattle.message.specs.declared.Sought.{Sought}
 use Rattle.message.specs.Lines.{Put, soughtOf, orEmpty, placed, display}
 use Rattle.message.proofs.Writing.{put-empty, put-then, put-size, put-front, put-inside}

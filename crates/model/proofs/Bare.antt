@@ -17,7 +17,7 @@ use Rattle.kinds.specs.Kind.{isKind, Suffix, suffixText, Kind, Kinds, noKind, m
 use Rattle.kinds.proofs.Logic.{left, right}
 use Rattle.model.specs.declared.Refusal.the-variants.{ExpectClose}
 use Rattle.model.specs.declared.Sort.the-variants.{Plain}
-use Rattle.model.specs.Text.{spanFrom, span, one, validLength, blank, skip, peek, wordLength, runByte, runLength, part}
+use Rattle.model.specs.Text.{spanFrom, span, one, validLength, blank, skip, first, peek, wordLength, runByte, runLength, part}
 use Rattle.model.specs.Tree.{Base, elementary, tuple, Field, field, Fields, noField, moreFields, unmarked, arrays, baseKind, kindOf, kindsOf, suffixesOf, baseOf, fieldOf}
 use Rattle.model.specs.KindText.{Result, ok, err, inside, Spelled, fromStr}
 use Rattle.model.specs.Parser.{Found, found, missing, Ans, got, bad, deep, Parser, onAns, then, require, whyNot, look, takeChar, word, keywordOf, lookIdent, option, optionalName}
@@ -27,7 +27,6 @@ use Rattle.model.specs.Answer.{writes}
 use Rattle.model.specs.Calls.{written, loneField, crowded, closes, isBare, allOf, tupleBy, readTuple, readKind, kindOutput}
 use Rattle.model.specs.Written.{suffixesText, SpellsKind, SpellsList, SpellsRest, fits}
 use Rattle.model.proofs.Scans.{skip-none, blank-nil, peek-byte, peek-inside}
-use Rattle.model.proofs.Stands.{first}
 use Rattle.model.proofs.Bounds.{tested}
 use Rattle.model.proofs.Sound.{field-is-kind, kind-well-formed}
 use Rattle.model.proofs.Spelling.{kind-call-admits}

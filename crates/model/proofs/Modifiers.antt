@@ -14,13 +14,13 @@ use Rattle.kinds.proofs.Logic.{left}
 use Rattle.model.specs.declared.Refusal.the-variants.{ExpectEnd}
 use Rattle.model.specs.declared.Keyword.the-variants as key
 use Rattle.model.specs.declared.Sort.the-variants.{Parameter}
-use Rattle.model.specs.Text.{one, skip, peek, wordLength}
+use Rattle.model.specs.Text.{one, skip, first, peek, wordLength}
 use Rattle.model.specs.Tree.{Fields, noField, notStated}
 use Rattle.model.specs.KindText.{Entry, lookup}
 use Rattle.model.specs.Parser.{got, bad, onAns, then, look, word, keywordOf, ident, keyword, option, atEnd, end}
 use Rattle.model.specs.Reading.{fields, mutabilities, visibilities, visibility, visibilityUnless, modifiers, returns, keywordText, function, exec}
 use Rattle.model.proofs.Bounds.{In, tested, Entries, lookup-of}
-use Rattle.model.proofs.Stands.{first, peek-first, Reads, reads-then, reads-on, reads-return, FindsWord, word-spaced, option-there, option-absent}
+use Rattle.model.proofs.Stands.{peek-first, Reads, reads-then, reads-on, reads-return, FindsWord, word-spaced, option-there, option-absent}
 
 -- Words of the tables.
 

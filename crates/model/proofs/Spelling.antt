@@ -14,13 +14,14 @@ use Rattle.kinds.proofs.Logic.{both, left, right, all-append}
 use Rattle.model.specs.declared.Refusal.the-variants.{Unknown}
 use Rattle.model.specs.declared.Sort.{Sort}
 use Rattle.model.specs.declared.Sort.the-variants.{Plain, Parameter, Event}
-use Rattle.model.specs.Tree.{Base, elementary, tuple, Field, field, Fields, unmarked, arrays, baseKind, kindOf, kindsOf, suffixesOf, baseOf, fieldsOf, fieldOf}
+use Rattle.model.specs.Tree.{Base, elementary, Field, field, unmarked, arrays, baseKind, kindOf, kindsOf, suffixesOf, baseOf, fieldsOf, fieldOf}
+use Rattle.model.specs.Text.{first}
 use Rattle.model.specs.Parser.{got, bad}
 use Rattle.model.specs.Reading.{canSpecifyLocation, marksBy, marks, fieldBy, list, tupleKind, deepest, longestText, admit}
 use Rattle.model.specs.Record.{isSuffix, isMark, isBase, isField, areFields}
 use Rattle.model.specs.Calls.{allOf, tupleBy, readTuple, readKind}
 use Rattle.model.specs.Written.{suffixesText, SpellsElementary, itself, SpellsKind, SpellsList, SpellsRest, fits, allFit}
-use Rattle.model.proofs.Stands.{first, peek-first, admit-ascii, Reads}
+use Rattle.model.proofs.Stands.{peek-first, admit-ascii, Reads}
 use Rattle.model.proofs.KindBack.{spelled-suffixes, spelled-word, word-ascii, suffix-ascii}
 use Rattle.model.proofs.Readback.{isEnd, ReadsBase, ReadsField, ReadsList, ReadsRest, base-lone, base-grouped, field-whole, list-empty, list-more, rest-empty, rest-more}
 use Rattle.model.proofs.Tuples.{uncrowded, all-bare}

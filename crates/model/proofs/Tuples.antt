@@ -12,11 +12,11 @@ use borrow.Author.Tests.{ne-eqb, not-true}
 use Rattle.kinds.specs.Bytes.{comma, lparen, rparen, lbracket, rbracket, all, isLetter, isWordByte}
 use Rattle.kinds.specs.Kind.{Suffix, Kind, Kinds, noKind, moreKinds, suffixText}
 use Rattle.kinds.proofs.Logic.{both, left, right, all-append, all-weaken, word-all}
+use Rattle.model.specs.Text.{first}
 use Rattle.model.specs.Reading.{deepest}
 use Rattle.model.specs.Calls.{crowded, closes, isBare}
 use Rattle.model.specs.Written.{SpellsKind, SpellsList, SpellsRest, fits, allFit}
 use Rattle.model.proofs.Scans.{blank-plain, word-range}
-use Rattle.model.proofs.Stands.{first}
 use Rattle.model.proofs.InBrackets.{inner, suffix-inner}
 use Rattle.model.proofs.KindBack.{inner-word, spelled-word}
 

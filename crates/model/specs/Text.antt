@@ -82,6 +82,11 @@ blank t = blankLength (charOf t)
 unfoldable pub skip : List ℕ → ℕ → ℕ
 skip s at = at + span blank (drop at s)
 
+-- the byte that a list begins with, and 256 if none
+abbrev pub first : List ℕ → ℕ
+first [] = 256
+first (c ∷ t) = c
+
 -- the byte at a place, and 256 at the end of the text
 unfoldable pub peek : List ℕ → ℕ → ℕ
 peek s at = elim (ltb at (length s)) [ true ↦ getD s at 0 | false ↦ 256 ]
