@@ -58,7 +58,7 @@ fn look_far(s: &[u8], at: usize) -> Seen
 const NO_MARK: usize = 256;
 
 // The mark that a word stands for in a list of a sort. Data locations are looked for only at kinds that admit them.
-pub fn mark_of(w: &[u8], sort: Sort, located: bool) -> usize
+fn mark_of(w: &[u8], sort: Sort, located: bool) -> usize
     ensures { λ r. ⌜ r ≡ markOf sort located (now (w .entry)) ⌝ }
 {
     match sort {
@@ -99,7 +99,7 @@ pub struct Named {
     pub next: usize,
 }
 
-pub fn mark_name(s: &[u8], at: usize, sort: Sort, located: bool) -> Named
+fn mark_name(s: &[u8], at: usize, sort: Sort, located: bool) -> Named
     requires { ⌜ at ≤ length (now s) ⌝ }
     ensures { λ r. ⌜ NamedIs (now (s .entry)) at sort located (r .mark) (r .from) (r .to) (r .next) ⌝ }
 {
@@ -142,7 +142,7 @@ pub enum Read {
 }
 
 // The end of a list.
-pub fn close(s: &[u8], at: usize) -> Read
+fn close(s: &[u8], at: usize) -> Read
     requires { ⌜ at ≤ length (now s) ⌝ }
     ensures { λ r. ⌜ Closes (now (s .entry)) at r ⌝ }
 {
@@ -173,7 +173,7 @@ pub enum Bracket {
 }
 
 // `array_suffix`: `[`, digits at once or none, `]`.
-pub fn array_suffix(s: &[u8], at: usize) -> Bracket
+fn array_suffix(s: &[u8], at: usize) -> Bracket
     requires { ⌜ at ≤ length (now s) ⌝ }
     ensures { λ r. ⌜ BracketIs (now (s .entry)) at r ⌝ }
 {
@@ -212,7 +212,7 @@ pub struct Grown {
 }
 
 // A tuple's suffixes, written one behind the other.
-pub fn suffixes(s: &[u8], at: usize, out: &mut [u8], o: usize) -> Grown
+fn suffixes(s: &[u8], at: usize, out: &mut [u8], o: usize) -> Grown
     requires { ⌜ Room 0 0 (now s) at o (now out) ⌝ }
     ensures { λ r. ⌜ Grows (now (s .entry)) at o (now (out .entry)) (now (out .exit)) (r .next) (r .len) ⌝ }
 {
@@ -260,7 +260,7 @@ fn is_located(b: Base, len: usize) -> bool
 }
 
 // The field of a list of a sort whose elementary kind begins at p, written in order.
-pub fn leaf(s: &[u8], p: usize, sort: Sort, out: &mut [u8], o: usize) -> Read
+fn leaf(s: &[u8], p: usize, sort: Sort, out: &mut [u8], o: usize) -> Read
     requires { ⌜ Room 0 0 (now s) p o (now out) ⌝ }
     ensures { λ r. ⌜ Put 0 (now (s .entry)) p o (now (out .entry)) (now (out .exit)) (leafOf sort (now (s .entry)) p) r ⌝ }
 {
@@ -346,7 +346,7 @@ pub fn field(s: &[u8], at: usize, sort: Sort, d: usize, out: &mut [u8], o: usize
 }
 
 // A tuple kind from its `(`, with its suffixes, where d tuples may open, itself counted.
-pub fn tuple(s: &[u8], p: usize, d: usize, out: &mut [u8], o: usize) -> Read
+fn tuple(s: &[u8], p: usize, d: usize, out: &mut [u8], o: usize) -> Read
     requires { ⌜ Room 14 d (now s) p o (now out) × (p < length (now s)) ⌝ }
     ensures { λ r. ⌜ Put 14 (now (s .entry)) p o (now (out .entry)) (now (out .exit)) (tupleOf d (now (s .entry)) p) r ⌝ }
 {
@@ -399,15 +399,7 @@ pub fn list(s: &[u8], at: usize, sort: Sort, d: usize, out: &mut [u8], o: usize)
 }
 
 // A field of a list and what follows it; where it fails, the list closes at `end`.
-pub fn step(
-    s: &[u8],
-    from: usize,
-    end: usize,
-    sort: Sort,
-    d: usize,
-    out: &mut [u8],
-    o: usize,
-) -> Item
+fn step(s: &[u8], from: usize, end: usize, sort: Sort, d: usize, out: &mut [u8], o: usize) -> Item
     requires { ⌜ Room 0 d (now s) from o (now out) × (end ≤ from) ⌝ }
     ensures { λ i. ⌜ ItemIs (now (s .entry)) sort d from end o (now (out .entry)) (now (out .exit)) i ⌝ }
 {

@@ -131,7 +131,7 @@ pub fn copy(out: &mut [u8], at: usize, src: &[u8])
 }
 
 // Moves the bytes from `at` up to `end` by n bytes.
-pub fn shift(out: &mut [u8], at: usize, end: usize, n: usize)
+fn shift(out: &mut [u8], at: usize, end: usize, n: usize)
     requires { ⌜ (at ≤ end) × (end + n ≤ length (now out)) ⌝ }
     ensures { λ _. ⌜ now (out .exit) ≡ shifted at end n (now (out .entry)) ⌝ }
 {

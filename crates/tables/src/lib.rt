@@ -25,7 +25,7 @@ pub fn print_byte(byte: u8) {
     io::print_hex(STDOUT_FILENO, byte as u64, 2);
 }
 
-pub fn print_hex(bytes: &[u8]) {
+fn print_hex(bytes: &[u8]) {
     let mut i = 0;
     while i < bytes.len() {
         print_byte(bytes[i]);
@@ -34,7 +34,7 @@ pub fn print_hex(bytes: &[u8]) {
 }
 
 // Whether the bytes from a place on are those that the buffer held beforehand.
-pub fn is_kept(buffer: &[u8], from: usize) -> bool {
+fn is_kept(buffer: &[u8], from: usize) -> bool {
     let mut i = from;
     while i < buffer.len() {
         if buffer[i] != FILL {
@@ -115,7 +115,7 @@ pub fn find(byte: u8, s: &[u8], from: usize) -> usize
 }
 
 // Where the field behind the one at a place begins, or the end.
-pub fn next_field(row: &[u8], from: usize) -> usize
+fn next_field(row: &[u8], from: usize) -> usize
     requires { ⌜ from ≤ length (now row) ⌝ }
     ensures { λ r. ⌜ r ≤ length (now (row .entry)) ⌝ }
 {

@@ -15,7 +15,7 @@ ghost use Rattle.model.specs.KindText.{starts};
 ghost use Rattle.text.specs.Found.{isAlphabetic, isPlain, isStop, flags, Begun, Runs, tailOf, codeOf, charFrom, CharIs, Skipped, toOption, Pushed, DigitIs};
 
 // 0-9
-pub fn is_digit(c: u8) -> bool
+fn is_digit(c: u8) -> bool
     ensures { λ r. ⌜ r ≡ isDigit c ⌝ }
 {
     48 <= c && c <= 57
@@ -50,7 +50,7 @@ pub fn is_letter(c: u8) -> bool
     c == 36 || c == 95
 }
 
-pub fn is_word_byte(c: u8) -> bool
+fn is_word_byte(c: u8) -> bool
     ensures { λ r. ⌜ r ≡ isWordByte c ⌝ }
 {
     is_digit(c) || is_letter(c)
@@ -174,7 +174,7 @@ pub fn begins(w: &[u8], t: &[u8]) -> bool
 }
 
 // Whether every byte is ASCII: by the largest of them, with no early exit.
-pub fn is_ascii(s: &[u8]) -> bool
+fn is_ascii(s: &[u8]) -> bool
     ensures { λ r. ⌜ r ≡ all isAscii (now (s .entry)) ⌝ }
 {
     let mut most: u8 = 0;
@@ -251,7 +251,7 @@ fn scalar(n: usize, low: u32, code: u32) -> Char
 }
 
 // The character that a part begins with.
-pub fn char_of(t: &[u8]) -> Char
+fn char_of(t: &[u8]) -> Char
     ensures { λ r. ⌜ CharIs (now (t .entry)) (r .code) (r .len) ⌝ }
 {
     if t.len() == 0 {
@@ -280,7 +280,7 @@ pub fn char_of(t: &[u8]) -> Char
 }
 
 // "A blank is a character with Unicode White_Space".
-pub fn is_blank(code: u32) -> bool
+fn is_blank(code: u32) -> bool
     ensures { λ r. ⌜ r ≡ isBlank code ⌝ }
 {
     match code {
@@ -332,7 +332,7 @@ pub fn blanks(t: &[u8]) -> usize
 }
 
 // The place behind the blanks at a place, whatever they are.
-pub fn skip_slowly(s: &[u8], at: usize) -> usize
+fn skip_slowly(s: &[u8], at: usize) -> usize
     requires { ⌜ at ≤ length (now s) ⌝ }
     ensures { λ r. ⌜ Skipped (now (s .entry)) at r ⌝ }
 {

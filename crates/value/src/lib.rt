@@ -93,7 +93,7 @@ fn fixed_bytes(n: CheckedLength) -> Spelled
 }
 
 // A text without suffixes, as an elementary kind.
-pub fn elementary(t: &[u8]) -> Spelled
+fn elementary(t: &[u8]) -> Spelled
     ensures { λ r. ⌜ toResult r ≡ elementaryOf (now (t .entry)) ⌝ }
 {
     if text::begins(b"uint", t) {
@@ -257,7 +257,7 @@ fn numbered(out: &mut [u8], o: usize, k: u16, n: usize)
 }
 
 // Writes the record of a base.
-pub fn write_base(out: &mut [u8], o: usize, b: Base)
+fn write_base(out: &mut [u8], o: usize, b: Base)
     requires { ⌜ o + length (encodeElementary 4 (toElementary b)) ≤ length (now out) ⌝ }
     ensures { λ _. ⌜ now (out .exit) ≡ put o (encodeElementary 4 (toElementary b)) (now (out .entry)) ⌝ }
 {
@@ -323,7 +323,7 @@ fn write_suffix(t: &[u8], at: usize, out: &mut [u8], o: usize) -> Cursor
 }
 
 // Writes the records of the suffixes from a place on.
-pub fn write_suffixes(t: &[u8], from: usize, out: &mut [u8], o: usize)
+fn write_suffixes(t: &[u8], from: usize, out: &mut [u8], o: usize)
     requires { ⌜ SuffixesAt (now t) from o (now out) ⌝ }
     ensures { λ _. ⌜ SuffixesPut (now (t .entry)) from o (now (out .entry)) (now (out .exit)) ⌝ }
 {
