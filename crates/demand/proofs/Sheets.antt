@@ -7,7 +7,7 @@ use lib.ListN.{length, take}
 use Rattle.model.specs.declared.Call.the-variants as call
 use Rattle.model.specs.declared.Answer.{Answer}
 use Rattle.model.specs.Layout.{recordOf}
-use Rattle.model.specs.Answer.{accepted, said, outcome}
+use Rattle.model.specs.Answer.{accepted, said}
 use Rattle.model.specs.Calls.{readOutput}
 use Rattle.model.specs.Sheet.{linesOf, sheetOutput, Singly}
 use Rattle.model.specs.Sheet as sheet

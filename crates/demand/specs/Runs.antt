@@ -18,7 +18,7 @@ use Rattle.model.specs.Reading.{keywordText}
 use Rattle.model.specs.Record.{decode, decodeLone}
 use Rattle.model.specs.Line.{keywordIn}
 use Rattle.model.specs.Answer.{accepted, said, outcome, after, handed, refusalNumber}
-use Rattle.model.specs.Sheet.{isBlankLine, linesOf, sheetOutput}
+use Rattle.model.specs.Sheet.{isBlankLine, sheetOutput}
 use Rattle.model.specs.Calls.{readOutput, kindOutput, canonicalOutput, kindTextOutput, nameOutput, AcceptedAs}
 use Rattle.model.specs.Full.{fullOutput}
 

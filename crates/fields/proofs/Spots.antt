@@ -13,7 +13,7 @@ use borrow.Author.Tests.{eq-eqb, ne-eqb}
 use Rattle.kinds.specs.Bytes.{ascii, same}
 use Rattle.model.specs.declared.Sort.{Sort}
 use Rattle.model.specs.declared.Sort.the-variants.{Plain, Parameter, Event}
-use Rattle.model.specs.Text.{peek, wordLength, part}
+use Rattle.model.specs.Text.{peek, wordLength}
 use Rattle.model.specs.Tree.{unmarked, inCalldata, inMemory}
 use Rattle.model.specs.KindText.{Entry, entry, lookup}
 use Rattle.model.specs.Parser.{got, found, missing, word, wordEnd, keywordOf, lookIdent, option, optionalName}

@@ -8,7 +8,7 @@ ghost use Rattle.model.specs.Answer.{writes, said, outcome, after};
 ghost use Rattle.model.specs.Calls.{readOutput, kindOutput, canonicalOutput, signatureOutput, kindTextOutput, nameOutput};
 ghost use Rattle.model.specs.Full.{fullOutput};
 ghost use Rattle.model.specs.Message.{messageOutput};
-ghost use Rattle.model.specs.Sheet.{OnLine, sheetOutput};
+ghost use Rattle.model.specs.Sheet.{sheetOutput};
 ghost use Rattle.geusomin.specs.Told.{code, worth};
 
 // An answer in two numbers.

@@ -5,7 +5,7 @@ use mathlib.Core.Logic.{inl, inr}
 use mathlib.Core.Bool.{Bool, true, false}
 use mathlib.Core.List.{List, [], _∷_, _++_}
 use mathlib.Core.Option.{Option, none, some}
-use Prim.Native.Nat.{ℕ, zero, suc, _+_, _-_, _≤_, _<_}
+use Prim.Native.Nat.{ℕ, zero, suc, _-_, _≤_, _<_}
 use native.Mathlib.Omega.{arith}
 use lib.ListN.{length}
 use types.Run.{OneOf}
@@ -19,7 +19,7 @@ use Rattle.model.specs.declared.Call.the-variants as call
 use Rattle.model.specs.KindText.{starts}
 use Rattle.model.specs.Reading.{keywordText, wanted}
 use Rattle.model.specs.Answer.{number}
-use Rattle.model.specs.Message.{expected, expectedKeyword, wordingCases, wording}
+use Rattle.model.specs.Message.{expectedKeyword, wordingCases, wording}
 use denote.Enum.Declared.{variants, tagOf}
 use Rattle.model.proofs.Refusal.{the-type}
 use Rattle.model.proofs.Decoding.{select-other}

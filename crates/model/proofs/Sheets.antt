@@ -3,19 +3,19 @@
 -- Assumes nothing.
 use mathlib.Core.Path.{_≡_, refl, sym, _∙_, ap}
 use mathlib.Core.Logic.{_↔_}
-use mathlib.Core.Bool.{Bool, true, false, _&&_, false≢true, and-eq-true-iff}
-use mathlib.Core.List.{List, [], _∷_, _++_, append-nil}
+use mathlib.Core.Bool.{Bool, true, false, false≢true, and-eq-true-iff}
+use mathlib.Core.List.{List, [], _∷_}
 use mathlib.Core.Option.{Option, none, some, Option·none-ne-some, Option·some-injective}
-use Prim.Native.Nat.{ℕ, zero, suc, _+_, _*_, _^_, _≤_, _<_}
+use Prim.Native.Nat.{ℕ, suc, _+_, _*_, _^_, _≤_, _<_}
 use native.Mathlib.Omega.{arith}
 use lib.Dec.{leb, ltb, eqb, lit<}
-use lib.ListN.{length, take, drop, length-append}
+use lib.ListN.{length, length-append}
 use borrow.Author.Tests.{leb-true, le-leb, eqb-true, ltb-false}
 use Rattle.kinds.specs.Bytes.{all, same}
 use Rattle.kinds.proofs.Logic.{both, left, right, same-equal}
 use Rattle.model.specs.Tree.{Declaration}
 use Rattle.model.specs.declared.Refusal.{Refusal}
-use Rattle.model.specs.declared.Refusal.the-variants.{SheetTooLong, TooManyDeclarations}
+use Rattle.model.specs.declared.Refusal.the-variants.{TooManyDeclarations}
 use Rattle.model.specs.declared.Call.the-variants as call
 use Rattle.model.specs.Parser.{Ans, got, bad, deep}
 use Rattle.model.specs.Reading.{keywordText, parse}

@@ -1,6 +1,6 @@
 -- Kinds told apart by their records: a base and its suffixes by their bytes, tuples by their fields.
 -- Assumes nothing.
-use mathlib.Core.Path.{_≡_, refl, sym, _∙_, ap}
+use mathlib.Core.Path.{_≡_, sym, _∙_, ap}
 use mathlib.Core.Logic.{_↔_}
 use mathlib.Core.Bool.{Bool, true, false, false≢true}
 use mathlib.Core.List.{List, [], _++_}
@@ -8,17 +8,16 @@ use mathlib.Core.Option.{Option·some-injective}
 use Prim.Native.Nat.{ℕ, zero, suc, _+_, _-_, _^_, _≤_, _<_}
 use native.Mathlib.Omega.{arith}
 use lib.Dec.{lit<}
-use lib.ListN.{length, take, drop, length-append, length-drop, drop-of-length-le}
-use lib.Seq.{drop-drop, length-take-le}
+use lib.ListN.{length, take, drop, length-append, length-drop}
+use lib.Seq.{length-take-le}
 use borrow.Author.Tests.{le-leb}
 use Rattle.kinds.specs.Bytes.{all, same}
 use Rattle.kinds.specs.Kind.{isElementary, Elementary, Suffix, Kind, Kinds}
-use Rattle.kinds.proofs.Logic.{both, left, right, same-equal}
-use Rattle.model.specs.declared.Sort.{Sort}
+use Rattle.kinds.proofs.Logic.{both, same-equal}
 use Rattle.model.specs.declared.Sort.the-variants.{Plain}
 use Rattle.model.specs.Layout.{littleEndian, leValue, recordOf}
-use Rattle.model.specs.Tree.{Base, elementary, tuple, Field, field, Fields, noField, moreFields, arrays, baseKind, kindOf, kindsOf, suffixesOf, baseOf}
-use Rattle.model.specs.Record.{encodeElementary, encodeName, encodeBase, encodeSuffixes, encodeField, encodeFields, isFieldName, isSuffix, isMark, isBase, isField, areFields, longestRecord, wellFormedField, baseFrom, decodeSuffixes, tupleFrom}
+use Rattle.model.specs.Tree.{Base, elementary, tuple, Field, field, Fields, arrays, baseKind, kindOf, kindsOf, suffixesOf, baseOf}
+use Rattle.model.specs.Record.{encodeElementary, encodeName, encodeBase, encodeSuffixes, encodeField, encodeFields, isSuffix, isBase, longestRecord, wellFormedField, baseFrom, decodeSuffixes, tupleFrom}
 use Rattle.model.specs.Reading.{deepest}
 use Rattle.model.proofs.Bounds.{record-size, field-size}
 use Rattle.model.proofs.Decoding.{Written, on-some}
@@ -27,7 +26,7 @@ use Rattle.model.proofs.Spelling.{kind-field, bare-field}
 use Rattle.model.proofs.Bare.{arrays-base, arrays-suffixes, base-suffixes}
 use Rattle.model.proofs.Scans.{part-rest}
 use Rattle.repeat.specs.Pairs.{KindIs, ListIs, TwoKinds, KindsSame, TwoLists, ListsSame}
-use Rattle.repeat.proofs.Places.{length-at, kind-at, body-at, rest-at, whole-length, field-length, name-length, kind-here, field-rest, field-whole}
+use Rattle.repeat.proofs.Places.{length-at, kind-at, body-at, rest-at, whole-length}
 
 -- a kind taken apart: what it is an array of, and its suffixes
 base-back : (b : Base) → baseKind (baseOf (baseKind b)) ≡ baseKind b

@@ -2,21 +2,21 @@
 -- Assumes nothing.
 use mathlib.Core.Path.{_≡_, refl, sym, _∙_, ap}
 use mathlib.Core.Logic.{_↔_}
-use mathlib.Core.Bool.{Bool, true, false, _&&_, false≢true, and-eq-true-iff}
-use mathlib.Core.List.{List, [], _∷_, _++_}
-use Prim.Native.Nat.{ℕ, zero, suc, _+_, _-_, _^_, _≤_, _<_}
+use mathlib.Core.Bool.{Bool, true, false, false≢true, and-eq-true-iff}
+use mathlib.Core.List.{List, _++_}
+use Prim.Native.Nat.{ℕ, _+_, _-_, _^_, _≤_, _<_}
 use native.Mathlib.Omega.{arith}
 use lib.Dec.{leb}
 use lib.ListN.{length, take, drop, length-append, length-drop, drop-of-length-le}
 use lib.Seq.{drop-drop, length-take-le}
-use borrow.Author.Tests.{le-leb, leb-true, leb-false}
+use borrow.Author.Tests.{leb-true, leb-false}
 use Rattle.kinds.specs.Bytes.{all}
-use Rattle.kinds.specs.Kind.{Suffix, Kinds, noKind, moreKinds}
+use Rattle.kinds.specs.Kind.{Suffix, moreKinds}
 use Rattle.kinds.proofs.Logic.{left, right}
 use Rattle.model.specs.declared.Sort.{Sort}
 use Rattle.model.specs.Reading.{marks}
 use Rattle.model.specs.Layout.{leValue}
-use Rattle.model.specs.Tree.{Base, Field, field, Fields, noField, moreFields, arrays, baseKind, kindOf, kindsOf}
+use Rattle.model.specs.Tree.{Base, field, Fields, noField, moreFields, arrays, baseKind, kindOf, kindsOf}
 use Rattle.model.specs.Record.{encodeBase, encodeSuffixes, encodeField, encodeFields, isFieldName, isSuffix, isMark, isBase, isField, areFields, longestRecord}
 use Rattle.model.proofs.Bounds.{field-size}
 use Rattle.model.proofs.Scans.{part-rest}

@@ -8,9 +8,9 @@ use Prim.Native.Nat.{ℕ, suc, _+_, _≤_, _<_}
 use native.Mathlib.Omega.{arith}
 use native.Mathlib.Numerals.{add-one}
 use lib.Dec.{ltb, eqb}
-use lib.ListN.{length, take, drop, getD, length-append, length-drop, drop-of-length-le}
+use lib.ListN.{length, take, drop, getD, length-drop, drop-of-length-le}
 use lib.Seq.{take-suc, drop-cons, drop-drop, take-at}
-use borrow.Author.Tests.{le-ltb, ltb-false, eq-eqb, ne-eqb}
+use borrow.Author.Tests.{le-ltb, eq-eqb, ne-eqb}
 use Rattle.model.specs.declared.Refusal.{Refusal}
 use Rattle.model.specs.declared.Answer.{Answer}
 use Rattle.model.specs.declared.Answer.the-variants.{Accepted, Refused}
@@ -18,7 +18,7 @@ use Rattle.model.specs.Layout.{leValue}
 use Rattle.model.specs.Tree.{Declaration}
 use Rattle.model.specs.Record.{encode, decode}
 use Rattle.model.specs.Line.{canonicalText}
-use Rattle.model.specs.Answer.{accepted, refused, number, Output, writes, refuses, said, outcome, after}
+use Rattle.model.specs.Answer.{accepted, refused, number, writes, said, outcome, after}
 use Rattle.model.specs.Calls.{canonicalOutput, ofRecord, orWrongSort}
 use Rattle.model.specs.Sheet.{repeats, has}
 use Rattle.model.proofs.Records.{decode-exactly, encode-bytes}

@@ -11,10 +11,9 @@ use lib.Seq.{drop-drop, take-at}
 use borrow.Author.Tests.{le-ltb}
 use Rattle.kinds.specs.Kind.{Kind, kindText, canonical}
 use Rattle.model.specs.Layout.{leValue, Bytes}
-use Rattle.model.specs.Tree.{Declaration, kindsOf}
+use Rattle.model.specs.Tree.{kindsOf}
 use Rattle.model.specs.Reading.{deepest}
-use Rattle.model.specs.Record.{encode, encodeFields, onOption}
-use Rattle.model.specs.Line.{canonicalText}
+use Rattle.model.specs.Record.{encodeFields, onOption}
 use Rattle.model.specs.Answer.{writes}
 use Rattle.model.specs.Calls.{canonicalOutput, orWrongSort}
 use Rattle.model.proofs.Scans.{part-rest}
@@ -28,7 +27,7 @@ use Rattle.abi.proofs.Nested.{brackets-long}
 use Rattle.repeat.specs.Pairs.{nameAt}
 use Rattle.repeat.specs.Prints.{print, printText, printIn, OneRecord, TextRoom, TextFront, TextWrote, PrintIs}
 use Rattle.repeat.proofs.Places.{body-at, name-low}
-use Rattle.repeat.proofs.Whole.{codeIn, code-is, Named, named-at, constructor-none, name-shape, name-fits, name-long, name-inside, list-long, list-inside, list-is, record-long}
+use Rattle.repeat.proofs.Whole.{codeIn, code-is, Named, named-at, constructor-none, name-shape, name-fits, name-long, name-inside, list-inside, list-is, record-long}
 use Rattle.repeat.proofs.Printing.{output-is}
 
 module _ (t : List ℕ) (at : ℕ) (b : List ℕ) (p : TextRoom t at b) where

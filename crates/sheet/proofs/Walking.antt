@@ -5,10 +5,10 @@ use mathlib.Core.Bool.{Bool, true, false, _&&_, _||_, not, false≢true}
 use mathlib.Core.List.{List, [], _∷_, _++_, append-nil}
 use Prim.Native.Nat.{ℕ, suc, _+_, _-_, _≤_, _<_}
 use native.Mathlib.Omega.{arith}
-use lib.Dec.{ltb, eqb}
+use lib.Dec.{eqb}
 use lib.ListN.{length, take, drop, getD, length-append, length-drop, drop-of-length-le, take-append-drop}
 use lib.Seq.{length-take-le, drop-drop, take-length}
-use borrow.Author.Tests.{le-ltb, ltb-false, eq-eqb, ne-eqb}
+use borrow.Author.Tests.{le-ltb, eq-eqb, ne-eqb}
 use Rattle.model.specs.declared.Refusal.{Refusal}
 use Rattle.model.specs.declared.Answer.{Answer}
 use Rattle.model.specs.declared.Answer.the-variants.{Accepted, Refused}
@@ -18,7 +18,7 @@ use Rattle.model.specs.Tree.{Declaration}
 use Rattle.model.specs.Parser.{got}
 use Rattle.model.specs.Reading.{parse}
 use Rattle.model.specs.Record.{encode}
-use Rattle.model.specs.Answer.{accepted, refused, number, Output, writes, refuses, said, outcome, after}
+use Rattle.model.specs.Answer.{accepted, refused, number, writes, said, outcome, after}
 use Rattle.model.specs.Calls.{written, readOutput}
 use Rattle.model.specs.Sheet.{lineFeed, linesOf, isBlankLine}
 use Rattle.kinds.specs.Bytes.{all}

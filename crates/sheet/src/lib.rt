@@ -2,13 +2,13 @@
 // repeats an earlier one, and once more to write; so a refusal leaves the lent buffer as it was, and no scratch holds the whole sheet.
 use model::Answer;
 use model::Refusal;
-ghost use Prim.Native.Nat.{_+_, _*_, _-_, _≤_, _<_};
+ghost use Prim.Native.Nat.{_+_, _-_, _≤_, _<_};
 ghost use mathlib.Core.Path.{_≡_};
 ghost use lib.Dec.{eqb};
-ghost use lib.ListN.{length, take, drop};
+ghost use lib.ListN.{length};
 ghost use Rattle.model.specs.Answer.{said, outcome, after};
 ghost use Rattle.repeat.specs.Prints.{any};
-ghost use Rattle.model.specs.Sheet.{lineFeed, linesOf, readLines, OnLine, sheetBy, sheetOutput};
+ghost use Rattle.model.specs.Sheet.{lineFeed, linesOf, readLines, sheetBy, sheetOutput};
 ghost use Rattle.sheet.specs.Lines.{SameLine, LineEnds, LineWritten, LinesFit, LinesWritten, NextLine, AskedAt, LineRepeats, AskedPrint, PrintRepeats, AskedBefore, HasBefore, RepeatNext, AskedCount, CountIs, AskedLine, LineTaken, SurveyIs, LinesRead, LinedEnds};
 
 // "text over 65,536 bytes"

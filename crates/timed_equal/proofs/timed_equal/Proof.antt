@@ -1,6 +1,5 @@
-use mathlib.Core.Path.{sym, ap, _∙_, refl}
+use mathlib.Core.Path.{sym, ap, _∙_}
 use mathlib.Core.Bool.{cond}
-use Prim.Native.Nat.{ℕ}
 use borrow.Author.Needs.{needs}
 use Rattle.timed_equal.proofs.timed_equal.Statement.{statement}
 use Rattle.timed_equal.proofs.timed_equal.Tie as tie
