@@ -24,7 +24,7 @@ pub record Wrote (t : Option (List ℕ)) (o : ℕ) (b b₁ : List ℕ) (r : ℕ)
   pub all : (u : List ℕ) → t ≡ some u → b₁ ≡ put o u b
   pub end : (u : List ℕ) → t ≡ some u → r ≡ o + length u
 
--- a number of two bytes that passes a test, in plain decimal
+-- "Widths and lengths are plain decimal": a number of two bytes that passes a test
 unfoldable pub numberFrom : (ℕ → Bool) → List ℕ → Option (List ℕ)
 numberFrom t body = wholly 2 body (λ n. when (t n) (some (decimal n)))
 

@@ -4,16 +4,16 @@ use mathlib.Core.Path.{_≡_, refl, sym, _∙_, ap, subst}
 use mathlib.Core.Bool.{Bool, true, false}
 use mathlib.Core.List.{List, [], _∷_}
 use mathlib.Core.Option.{Option, none, some}
-use Prim.Native.Nat.{ℕ, suc, _+_, _*_, _-_, _≤_, _<_}
+use Prim.Native.Nat.{ℕ, _+_, _*_, _-_, _≤_, _<_}
 use native.Mathlib.Omega.{arith}
 use native.Mathlib.Decide.{decLt, ℕ-discrete}
-use lib.ListN.{length, take, drop, getD, length-drop}
-use lib.Seq.{length-take-le, drop-cons}
+use lib.ListN.{length, take, drop, length-drop}
+use lib.Seq.{length-take-le}
 use borrow.Author.Tests.{eq-eqb, ne-eqb}
 use Rattle.kinds.specs.Bytes.{ascii, same}
 use Rattle.model.specs.declared.Sort.{Sort}
 use Rattle.model.specs.declared.Sort.the-variants.{Plain, Parameter, Event}
-use Rattle.model.specs.Text.{peek, wordLength}
+use Rattle.model.specs.Text.{span, blank, peek, wordLength}
 use Rattle.model.specs.Tree.{unmarked, inCalldata, inMemory}
 use Rattle.model.specs.KindText.{Entry, entry, lookup}
 use Rattle.model.specs.Parser.{got, found, missing, word, wordEnd, keywordOf, lookIdent, option, optionalName}
@@ -21,9 +21,9 @@ use Rattle.model.specs.Reading.{marksBy}
 use Rattle.model.specs.Record.{hasMark}
 use Rattle.model.proofs.Bounds.{In}
 use Rattle.model.proofs.Marks.{lookup-has, mark-small}
-use Rattle.model.proofs.Scans.{part-rest, peek-byte, peek-end}
+use Rattle.model.proofs.Scans.{part-rest, peek-end}
 use Rattle.text.specs.Found.{Skipped}
-use Rattle.text.proofs.Skipping.{skipped-none}
+use Rattle.text.proofs.Skipping.{skipped, peek-part}
 use Rattle.fields.specs.declared.Named.{Named}
 use Rattle.fields.specs.Words.{EndIs, WordIs, Looked, orNone, markOf, locationOf, nameAt, NamedIs}
 
@@ -50,11 +50,11 @@ word-is s at a e k i =
 peek-edge : (s : List ℕ) (p b : ℕ) → b ≡ peek s p → 256 ≤ b + 256 * (length s - p)
 peek-edge s p b e = elim (decLt p (length s)) [ yes h ↦ omega arith | no h ↦ omega (arith, e, peek-end s p (omega arith)) ]
 
-pub looked : (s : List ℕ) (at p b : ℕ) → Skipped s at p → b ≡ peek s p → Looked s at p b
-looked s at p b k e = record { place = k .place; byte = e; low = k .low; inside = k .inside; edge = peek-edge s p b e }
-
-pub looked-here : (s : List ℕ) (at : ℕ) → at < length s → 32 < getD s at 0 → getD s at 0 < 128 → Looked s at at (getD s at 0)
-looked-here s at h k l = looked s at at (getD s at 0) (skipped-none s at h k l) (sym (peek-byte s at (getD s at 0) (drop (suc at) s) (drop-cons s at 0 h)))
+pub looked : (s : List ℕ) (at n b : ℕ) → at ≤ length s → n ≡ span blank (take (length s - at) (drop at s)) → b ≡ peek (take (length s - at) (drop at s)) n → Looked s at (at + n) b
+looked s at n b h e f =
+    let k = skipped s at n h e in
+    let g : b ≡ peek s (at + n) = rw part-rest at f ∙ peek-part s at n in
+    record { place = k .place; byte = g; low = k .low; inside = k .inside; edge = peek-edge s (at + n) b g }
 
 -- marks, where r is the code's test
 module _ (w : List ℕ) where
@@ -236,4 +236,4 @@ module _ (s : List ℕ) (at : ℕ) (sort : Sort) (l : Bool) (a e m : ℕ) (h : a
         part = n .part;
       }
 
-pub ruleset spots = (word-ends, word-is, looked, looked-here, calldata-is, memory-is, no-location, mark-plain, mark-located, mark-unlocated, mark-indexed, mark-unindexed, name-none, name-some, named-unmarked, named-marked)
+pub ruleset spots = (word-ends, word-is, looked, calldata-is, memory-is, no-location, mark-plain, mark-located, mark-unlocated, mark-indexed, mark-unindexed, name-none, name-some, named-unmarked, named-marked)

@@ -29,28 +29,15 @@ pub struct Seen {
     pub byte: u16,
 }
 
-// Quick where a character stands there that is certainly no blank.
 pub fn look(s: &[u8], at: usize) -> Seen
     requires { ⌜ at ≤ length (now s) ⌝ }
     ensures { λ r. ⌜ Looked (now (s .entry)) at (r .at) (r .byte) ⌝ }
 {
-    if at < s.len() {
-        let c = s[at];
-        if 32 < c && c < 128 {
-            return Seen { at, byte: c as u16 };
-        }
-    }
-    look_far(s, at)
-}
-
-fn look_far(s: &[u8], at: usize) -> Seen
-    requires { ⌜ at ≤ length (now s) ⌝ }
-    ensures { λ r. ⌜ Looked (now (s .entry)) at (r .at) (r .byte) ⌝ }
-{
-    let p = text::skip(s, at);
+    let t = &s[at..];
+    let n = text::blanks(t);
     Seen {
-        at: p,
-        byte: text::peek(s, p),
+        at: at + n,
+        byte: text::peek(t, n),
     }
 }
 

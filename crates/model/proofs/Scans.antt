@@ -209,10 +209,6 @@ pub skip-none : (s : List ℕ) (at : ℕ) → blank (drop at s) ≡ 0 → skip s
 unfolding skip
 skip-none s at e = omega (arith, span-none blank (drop at s) e)
 
-pub skip-space : (s : List ℕ) (at : ℕ) (t : List ℕ) → drop at s ≡ 32 ∷ t → blank t ≡ 0 → skip s at ≡ at + 1
-unfolding skip
-skip-space s at t e h = omega (arith, ap (span blank) e, span-item blank (32 ∷ t) 0 (blank-space t) (omega arith), span-none blank t h)
-
 -- Words and runs.
 
 -- a test of two bounds, as an order

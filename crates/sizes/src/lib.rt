@@ -1,4 +1,4 @@
-// Bit widths and byte lengths: two sorts of number, each made by its check alone.
+// "BitWidth and ByteLength remain two sorts of number": each is made by its check alone.
 ghost use mathlib.Core.Path.{_≡_};
 ghost use Rattle.kinds.specs.Kind.{isBitWidth, isByteLength};
 ghost use Rattle.sizes.specs.Checked.{checked, widthNumber, lengthNumber, widthOf, lengthOf};

@@ -6,14 +6,14 @@ use mathlib.Core.List.{List, [], _∷_}
 use Prim.Native.Nat.{ℕ, zero, suc, _+_, _-_, _≤_, _<_}
 use native.Mathlib.Omega.{arith}
 use native.Mathlib.Nat.{zero-add}
-use native.Mathlib.Numerals.{add-one}
 use lib.Dec.{eqb}
-use lib.ListN.{length, take, drop, getD, length-drop}
-use lib.Seq.{drop-cons}
+use lib.ListN.{length, take, drop, getD}
+use lib.Seq.{drop-cons, drop-drop}
 use borrow.Author.Tests.{lt-ltb, ne-eqb, eqb-true}
 use Rattle.kinds.specs.Bytes.{all, isAscii, comma, rparen}
-use Rattle.model.specs.Text.{span, charOf, charLength, character, validLength, isBlank, blankLength, blank, skip, peek, runByte, runLength}
-use Rattle.model.proofs.Scans.{span-le, span-item, blank-nil, blank-ascii, blank-space, blank-plain, skip-le, skip-within, skip-none, skip-space, skip-part, peek-byte, peek-end, part-rest, scan-none, scan-item, valid-ascii}
+use Rattle.model.specs.Text.{span, charOf, charLength, character, validLength, isBlank, blankLength, blank, peek, runByte, runLength}
+use Rattle.model.proofs.Scans.{span-none, span-item, blank-nil, blank-ascii, blank-space, blank-plain, skip-within, skip-part, peek-byte, peek-end, part-rest, scan-none, scan-item, valid-ascii}
+use Rattle.model.proofs.Stands.{peek-first}
 use Rattle.text.specs.Found.{charFrom, CharIs, Skipped}
 
 module _ (t : List ℕ) (v n : ℕ) (r : Bool) (i : CharIs t v n) (e : r ≡ isBlank v) where
@@ -61,33 +61,38 @@ char-length t v n i = rw (← i .same) (go n)
 pub valid-whole : (s : List ℕ) (r : Bool) → r ≡ all isAscii s → r ≡ true → length s ≡ validLength s
 valid-whole s r e w = sym (valid-ascii s (sym e ∙ w))
 
+-- the blanks that a part begins with, by its first bytes
+module _ (t : List ℕ) where
+  plain-at : (i : ℕ) → i < length t → 32 < getD t i 0 → getD t i 0 < 128 → blank (drop i t) ≡ 0
+  plain-at i h k l = rw (drop-cons t i 0 h) (blank-plain (getD t i 0) (drop (suc i) t) (omega arith) l)
+
+  space-first : 1 < length t → getD t 0 0 ≡ 32 → span blank t ≡ 1 + span blank (drop 1 t)
+  space-first h e =
+      let f : t ≡ 32 ∷ drop 1 t = drop-cons t 0 0 (omega arith) ∙ rw e in
+      span-item blank t 0 (ap blank f ∙ blank-space (drop 1 t)) (omega arith)
+
+  pub blanks-end : length t ≡ 0 → 0 ≡ span blank t
+  blanks-end e = sym (span-none blank t (sym (blank-end t e)))
+
+  pub blanks-none : (length t ≡ 0 → ⊥) → 32 < getD t 0 0 → getD t 0 0 < 128 → 0 ≡ span blank t
+  blanks-none h k l = sym (span-none blank t (plain-at 0 (omega arith) k l))
+
+  pub blanks-space : 1 < length t → getD t 0 0 ≡ 32 → 32 < getD t 1 0 → getD t 1 0 < 128 → 1 ≡ span blank t
+  blanks-space h e k l = omega (arith, space-first h e, span-none blank (drop 1 t) (plain-at 1 h k l))
+
+  pub blanks-over : (r : ℕ) → 1 < length t → getD t 0 0 ≡ 32 → r ≡ span blank (take (length t - 1) (drop 1 t)) → 1 + r ≡ span blank t
+  blanks-over r h e f = let g : r ≡ span blank (drop 1 t) = rw part-rest at f in omega (arith, space-first h e)
+
 -- the place behind the blanks
-skipped : (s : List ℕ) (at p : ℕ) → at ≤ length s → p ≡ skip s at → Skipped s at p
-skipped s at p h e = record { place = e; low = rw e (skip-le s at); inside = rw e (skip-within s at h) }
-
-pub skipped-slowly : (s : List ℕ) (at r : ℕ) → at ≤ length s → r ≡ span blank (take (length s - at) (drop at s)) → Skipped s at (at + r)
-skipped-slowly s at r h e = skipped s at (at + r) h (skip-part s at r e)
-
-pub skipped-none : (s : List ℕ) (at : ℕ) → at < length s → 32 < getD s at 0 → getD s at 0 < 128 → Skipped s at at
-skipped-none s at h k l = skipped s at at (omega arith) (sym (skip-none s at (rw (drop-cons s at 0 h) (blank-plain (getD s at 0) (drop (suc at) s) (omega arith) l))))
-
-pub skipped-over : (s : List ℕ) (at p : ℕ) → at + 1 < length s → getD s at 0 ≡ 32 → Skipped s (at + 1) p → Skipped s at p
-unfolding skip
-skipped-over s at p h e k =
-    let f : drop at s ≡ 32 ∷ drop (at + 1) s = rw add-one (drop-cons s at 0 (omega arith) ∙ rw e) in
-    skipped s at p (omega arith) (k .place ∙ omega (arith, ap (span blank) f, span-item blank (32 ∷ drop (at + 1) s) 0 (blank-space (drop (at + 1) s)) (omega arith)))
-
-pub skipped-space : (s : List ℕ) (at : ℕ) → at + 1 < length s → getD s at 0 ≡ 32 → 32 < getD s (at + 1) 0 → getD s (at + 1) 0 < 128 → Skipped s at (at + 1)
-skipped-space s at h e k l =
-    let f : drop at s ≡ 32 ∷ drop (at + 1) s = rw add-one (drop-cons s at 0 (omega arith) ∙ rw e) in
-    skipped s at (at + 1) (omega arith) (sym (skip-space s at (drop (at + 1) s) f (rw (drop-cons s (at + 1) 0 h) (blank-plain (getD s (at + 1) 0) (drop (suc (at + 1)) s) (omega arith) l))))
-
-pub skipped-end : (s : List ℕ) (at : ℕ) → at ≤ length s → length s ≤ at → Skipped s at at
-unfolding skip
-skipped-end s at h k = skipped s at at h (omega (arith, span-le blank (drop at s), length-drop at s))
+pub skipped : (s : List ℕ) (at r : ℕ) → at ≤ length s → r ≡ span blank (take (length s - at) (drop at s)) → Skipped s at (at + r)
+skipped s at r h e = let f = skip-part s at r e in record { place = f; low = omega arith; inside = rw f (skip-within s at h) }
 
 pub peek-here : (s : List ℕ) (at : ℕ) → at < length s → getD s at 0 ≡ peek s at
 peek-here s at h = sym (peek-byte s at (getD s at 0) (drop (suc at) s) (drop-cons s at 0 h))
+
+-- a place in what stands behind another
+pub peek-part : (s : List ℕ) (at n : ℕ) → peek (drop at s) n ≡ peek s (at + n)
+peek-part s at n = peek-first (drop at s) n _ refl ∙ sym (peek-first s (at + n) _ (sym (drop-drop n at s)))
 
 pub peek-past : (s : List ℕ) (at : ℕ) → length s ≤ at → 256 ≡ peek s at
 peek-past s at h = sym (peek-end s at h)
@@ -143,4 +148,4 @@ pub valid-start : (t : List ℕ) → 0 + span character (drop 0 t) ≡ validLeng
 unfolding validLength
 valid-start t = zero-add _
 
-pub ruleset skipping = (blank-byte, blank-no-byte, blank-end, skipped-over, run-start, valid-start, blank-yes, blank-no, char-length, valid-whole, skipped-slowly, skipped-none, skipped-space, skipped-end, peek-here, peek-past, run-plain, run-high, run-comma, run-paren, run-space, run-slow, run-stop, run-more)
+pub ruleset skipping = (blank-byte, blank-no-byte, blank-end, run-start, valid-start, blank-yes, blank-no, char-length, valid-whole, blanks-end, blanks-none, blanks-space, blanks-over, skipped, peek-here, peek-past, run-plain, run-high, run-comma, run-paren, run-space, run-slow, run-stop, run-more)

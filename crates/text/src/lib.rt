@@ -316,8 +316,8 @@ pub fn blank(t: &[u8]) -> usize
     if is_blank(c.code) { c.len } else { 0 }
 }
 
-// How far the blanks reach that a part begins with.
-pub fn blanks(t: &[u8]) -> usize
+// How far the blanks reach that a part begins with, whatever they are.
+fn blanks_slowly(t: &[u8]) -> usize
     ensures { λ r. ⌜ (r ≡ span blank (now (t .entry))) × (r ≤ length (now (t .entry))) ⌝ }
 {
     let mut i = 0;
@@ -331,34 +331,33 @@ pub fn blanks(t: &[u8]) -> usize
     i
 }
 
-// The place behind the blanks at a place, whatever they are.
-fn skip_slowly(s: &[u8], at: usize) -> usize
-    requires { ⌜ at ≤ length (now s) ⌝ }
-    ensures { λ r. ⌜ Skipped (now (s .entry)) at r ⌝ }
+// The same, quick where no blank or one space stands there. The slow scanner is called at two places, since the compiler would inline it at one.
+pub fn blanks(t: &[u8]) -> usize
+    ensures { λ r. ⌜ (r ≡ span blank (now (t .entry))) × (r ≤ length (now (t .entry))) ⌝ }
 {
-    at + blanks(&s[at..])
+    if t.len() == 0 {
+        return 0;
+    }
+    let c = t[0];
+    if b' ' < c && c < 0x80 {
+        return 0;
+    }
+    if c == b' ' && 1 < t.len() {
+        let d = t[1];
+        if b' ' < d && d < 0x80 {
+            return 1;
+        }
+        return 1 + blanks_slowly(&t[1..]);
+    }
+    blanks_slowly(t)
 }
 
-// The same, quick where no blank or one space stands there.
+// The place behind the blanks at a place.
 pub fn skip(s: &[u8], at: usize) -> usize
     requires { ⌜ at ≤ length (now s) ⌝ }
     ensures { λ r. ⌜ Skipped (now (s .entry)) at r ⌝ }
 {
-    if at < s.len() {
-        let c = s[at];
-        if 32 < c && c < 128 {
-            return at;
-        }
-        if c == 32 && at + 1 < s.len() {
-            let d = s[at + 1];
-            if 32 < d && d < 128 {
-                return at + 1;
-            }
-            return skip_slowly(s, at + 1);
-        }
-        return skip_slowly(s, at);
-    }
-    at
+    at + blanks(&s[at..])
 }
 
 // The byte at a place, and 256 at the end.

@@ -1,62 +1,61 @@
-use borrow.Author.Needs.{needs}
-use mathlib.Core.Path.{_≡_}
-use Prim.Native.Nat.{_+_, _-_, _≤_}
-use lib.ListN.{length, drop}
-use Rattle.model.proofs.Scans.{scanning}
 use Rattle.text.proofs.Skipping.{skipping}
-use Rattle.model.specs.Text.{span, blank}
+use borrow.Author.Needs.{needs}
 use Rattle.text.proofs.blanks.Statement.{statement}
 use Rattle.text.proofs.blanks.Tie as tie
 
-abbrev Inv-loop : tie.InvT-loop
-Inv-loop t i₀ i = (i ≤ length t) × (i + span blank (drop i t) ≡ span blank t)
+returns : tie.Need-returns
+returns c = search (needs, skipping)
 
-abbrev μ-loop : tie.MeasureT-loop
-μ-loop t i₀ i = length t - i
+shared-slice-read-c : tie.Need-shared-slice-read-c
+shared-slice-read-c c = search needs
 
-loop-holds : tie.Need-loop-holds Inv-loop μ-loop
-loop-holds c = search (needs, scanning, skipping)
+returns-2 : tie.Need-returns-2
+returns-2 c = search (needs, skipping)
 
-sub-blank : tie.Need-sub-blank Inv-loop μ-loop
-sub-blank c = search (needs, scanning, skipping)
+shared-slice-read-d : tie.Need-shared-slice-read-d
+shared-slice-read-d c = search needs
 
-part-blank-start : tie.Need-part-blank-start Inv-loop μ-loop
-part-blank-start c = search (needs, scanning, skipping)
+returns-3 : tie.Need-returns-3
+returns-3 c = search (needs, skipping)
 
-part-blank-end : tie.Need-part-blank-end Inv-loop μ-loop
-part-blank-end c = search (needs, scanning, skipping)
+sub-blanks-slowly : tie.Need-sub-blanks-slowly
+sub-blanks-slowly c = search needs
 
-blank-requires : tie.Need-blank-requires Inv-loop μ-loop
-blank-requires c κs = search (needs, scanning, skipping)
+part-blanks-slowly-start : tie.Need-part-blanks-slowly-start
+part-blanks-slowly-start c = search needs
 
-returns : tie.Need-returns Inv-loop μ-loop
-returns c = search (needs, scanning, skipping)
+part-blanks-slowly-end : tie.Need-part-blanks-slowly-end
+part-blanks-slowly-end c = search needs
 
-add-i : tie.Need-add-i Inv-loop μ-loop
-add-i c = search (needs, scanning, skipping)
+blanks-slowly-requires : tie.Need-blanks-slowly-requires
+blanks-slowly-requires c κs = search needs
 
-loop-less : tie.Need-loop-less Inv-loop μ-loop
-loop-less c = search (needs, scanning, skipping)
+add-result : tie.Need-add-result
+add-result c = search needs
 
-loop-again : tie.Need-loop-again Inv-loop μ-loop
-loop-again c = search (needs, scanning, skipping)
+returns-4 : tie.Need-returns-4
+returns-4 c = search (needs, skipping)
 
-returns-2 : tie.Need-returns-2 Inv-loop μ-loop
-returns-2 c = search (needs, scanning, skipping)
+blanks-slowly-requires-2 : tie.Need-blanks-slowly-requires-2
+blanks-slowly-requires-2 c κs = search needs
+
+returns-5 : tie.Need-returns-5
+returns-5 c = search needs
 
 pub blanks-spec : {M : Type 1} → statement M
 blanks-spec =
     tie.close
     (tie.spec
-    Inv-loop
-    μ-loop
-    loop-holds
-    sub-blank
-    part-blank-start
-    part-blank-end
-    blank-requires
     returns
-    add-i
-    loop-less
-    loop-again
-    returns-2)
+    shared-slice-read-c
+    returns-2
+    shared-slice-read-d
+    returns-3
+    sub-blanks-slowly
+    part-blanks-slowly-start
+    part-blanks-slowly-end
+    blanks-slowly-requires
+    add-result
+    returns-4
+    blanks-slowly-requires-2
+    returns-5)
