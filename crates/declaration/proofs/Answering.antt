@@ -32,7 +32,7 @@ use Rattle.fields.specs.Scratch.{bytesOf}
 use Rattle.fields.proofs.Family.{is-got, is-bad, is-deep, of-got, of-bad, of-deep}
 use Rattle.declaration.specs.declared.Admitted.{Admitted}
 use Rattle.declaration.specs.declared.Admitted.the-variants.{Whole as Admits, Not}
-use Rattle.declaration.specs.Stages.{Whole}
+use Rattle.parser.specs.Stages.{Whole}
 use Rattle.declaration.specs.Outputs.{execOutput, Finished, FinishEnds, openedOutput, namedOutput, AdmittedIs}
 
 -- scratch holds the record

@@ -17,7 +17,7 @@ use Rattle.declaration.specs.declared.Admitted.{Admitted}
 use Rattle.declaration.specs.declared.Admitted.the-variants.{Whole as Admits, Not}
 use Rattle.fields.specs.declared.Read.{Read}
 use Rattle.layout.specs.Answers.{Ends}
-use Rattle.declaration.specs.Stages.{Whole}
+use Rattle.parser.specs.Stages.{Whole}
 
 -- what is read of an admitted text, where a keyword is wanted
 unfoldable pub execOutput : Keyword → List ℕ → Output
