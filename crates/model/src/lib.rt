@@ -21,6 +21,8 @@ pub enum Refusal {
     SheetTooLong,
     TooManyDeclarations,
     Repeated,
+    CallTooLong,
+    NotAnEncoding,
 }
 
 // What a call answers: the length of what it wrote, or why it refuses and where.

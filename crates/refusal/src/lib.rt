@@ -26,5 +26,7 @@ pub fn number(refusal: Refusal) -> u32
         Refusal::SheetTooLong => 21,
         Refusal::TooManyDeclarations => 22,
         Refusal::Repeated => 23,
+        Refusal::CallTooLong => 24,
+        Refusal::NotAnEncoding => 25,
     }
 }
