@@ -16,7 +16,7 @@ pub fn put2(out: &mut [u8], o: usize, v: usize)
 }
 
 // Writes a number of four bytes at o.
-fn put4(out: &mut [u8], o: usize, v: usize)
+pub fn put4(out: &mut [u8], o: usize, v: usize)
     requires { ⌜ o + 4 ≤ length (now out) ⌝ }
     ensures { λ _. ⌜ now (out .exit) ≡ put o (littleEndian 4 v) (now (out .entry)) ⌝ }
 {
