@@ -7,7 +7,7 @@ use mathlib.Core.Option.{none, some}
 use Prim.Native.Nat.{ℕ, _+_, _*_, _-_, _≤_, _<_}
 use native.Mathlib.Omega.{arith}
 use lib.Dec.{leb}
-use lib.ListN.{length, take, drop, getD, length-append, length-take, length-drop}
+use lib.ListN.{length, take, drop, getD, length-append, length-drop}
 use lib.Seq.{take-at, drop-at, drop-drop}
 use borrow.Author.Tests.{leb-true}
 use Rattle.kinds.specs.Bytes.{ascii, between}
@@ -27,7 +27,7 @@ use Rattle.model.specs.Layout.{littleEndian, leValue, recordOf, Bytes}
 use Rattle.model.specs.Record.{encodeFields, encodeList, encodeName, encode, areFields, isDeclaration, wellFormed, longestRecord, case, onOption, decodeFields, decode, decodeLone}
 use Rattle.model.specs.Full.{bracketed, mutabilityText, anonymousText, fullText, fullOutput}
 use Rattle.model.specs.Answer.{writes}
-use Rattle.model.proofs.Pieces.{bytes-take, bytes-drop, le-length, le-read, record-length}
+use Rattle.model.proofs.Pieces.{le-length, le-read, record-length}
 use Rattle.model.proofs.Decoding.{select-other}
 use Rattle.model.proofs.Records.{inputs-spells, decode-exactly}
 use Rattle.model.proofs.Scans.{part-rest}
@@ -43,9 +43,9 @@ use Rattle.record.specs.Texts.{measured, tupleTextFrom}
 use Rattle.record.proofs.Tops.{fields-decode}
 use Rattle.record.proofs.Walk.{rest-length}
 use Rattle.abi.proofs.Calls.{short}
-use Rattle.full.specs.Parts.{FieldsAre}
+use Rattle.record.specs.Encoded.{FieldsAre}
 use Rattle.full.specs.Lines.{spot, Listed, Returned, joined, Line, lineOf, LineEnds}
-use Rattle.full.proofs.There.{behind-head}
+use Rattle.record.proofs.Standing.{behind-head, said-fields}
 
 -- Words.
 
@@ -135,20 +135,14 @@ module _ (b : List ℕ) (B : AreBytes b) where
   exactly d e = decode-exactly b d (bytes-of b B) .0 e
 
   listed : (sort : Sort) (l : Measured) (fs : Fields) → length b ≤ longestRecord → ListSaid b sort l fs → Listed b l fs
-  listed sort l fs h w =
-      let t : List ℕ = spot b (l .from) (l .to) in
-      let z : (areFields sort deepest fs ≡ true) × (t ≡ encodeFields 4 fs) = inputs-spells 4 sort .from t fs (bytes-take (l .to - l .from) (drop (l .from) b) (bytes-drop (l .from) b (bytes-of b B))) (w .there) in
-      record {
-        is = record { same = z .1; small = omega (arith, spot-small b (l .from) (l .to)); sort = sort; d = deepest; well = z .0 };
-        long = w .long;
-        small = w .small;
-        order = w .order;
-        inside = w .inside;
-        short = h;
-      }
-    where
-      spot-small : (c : List ℕ) (from to : ℕ) → length (spot c from to) ≤ length c
-      spot-small c from to = omega (arith, length-drop from c, length-take (to - from) (drop from c))
+  listed sort l fs h w = record {
+    is = said-fields b B h sort l fs w;
+    long = w .long;
+    small = w .small;
+    order = w .order;
+    inside = w .inside;
+    short = h;
+  }
 
   -- a declaration whose full text is a line in its parts: so long it is, and what ends as its line ends as the call is to end
   module _ (d : Declaration) (e : decode b ≡ some d) where

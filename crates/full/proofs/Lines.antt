@@ -24,9 +24,10 @@ use Rattle.record.specs.declared.Spot.{Spot}
 use Rattle.record.specs.declared.Measured.{Measured}
 use Rattle.record.proofs.Equations.{arrays-text}
 use Rattle.abi.proofs.Whole.{part-length}
-use Rattle.full.specs.Parts.{FieldsAre, extraBase, extraField, extraFields, Extra, PutIn, FieldsRoom, FieldsWrote}
+use Rattle.record.specs.Encoded.{FieldsAre}
+use Rattle.full.specs.Parts.{extraBase, extraField, extraFields, Extra, PutIn, FieldsRoom, FieldsWrote}
 use Rattle.full.specs.Lines.{spot, SomeList, SomeReturns, ListLong, ReturnsLong, ReturnsRoom, ReturnsWrote, Line, lineOf, LineFits, LineEnds}
-use Rattle.full.proofs.There.{none-left, left-start}
+use Rattle.record.proofs.Standing.{none-left, left-start}
 use Rattle.full.proofs.Writing.{put-size, put-both, put-same}
 use Rattle.full.proofs.Words.{nothing-put}
 

@@ -26,8 +26,9 @@ use Rattle.record.proofs.Walk.{rest-length}
 use Rattle.abi.specs.Writes.{Room, Wrote}
 use Rattle.abi.specs.Writes as abi
 use Rattle.abi.proofs.Stores.{put-none, store-1}
-use Rattle.full.specs.Parts.{markIn, nameIn, kindIn, FieldsAre, FieldIs, KindIs, kindWritten, PutIn, FieldsRoom, FieldRoom, KindRoom, FieldsWrote, FieldWrote, KindWrote}
-use Rattle.full.proofs.There.{Left, Step, step-least, step, none-left, left-start, field-there, kind-record, TupleThere, tuple-there, leaf-there}
+use Rattle.record.specs.Encoded.{markIn, nameIn, kindIn, FieldsAre, FieldIs, KindIs}
+use Rattle.full.specs.Parts.{kindWritten, PutIn, FieldsRoom, FieldRoom, KindRoom, FieldsWrote, FieldWrote, KindWrote}
+use Rattle.record.proofs.Standing.{Left, Step, step-least, step, none-left, left-start, field-there, kind-record, TupleThere, tuple-there, leaf-there}
 use Rattle.full.proofs.Measuring.{kind-here, name-here}
 
 -- a text put in, and one behind it

@@ -16,7 +16,8 @@ use Rattle.layout.specs.Answers.{Ends}
 use Rattle.record.specs.declared.Spot.{Spot}
 use Rattle.record.specs.declared.Measured.{Measured}
 use Rattle.record.specs.Says.{NameSaid}
-use Rattle.full.specs.Parts.{FieldsAre, SomeFields, PutIn}
+use Rattle.record.specs.Encoded.{FieldsAre, SomeFields}
+use Rattle.full.specs.Parts.{PutIn}
 
 -- the bytes from a place up to another
 abbrev pub spot : List ℕ → ℕ → ℕ → List ℕ

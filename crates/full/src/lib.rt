@@ -18,7 +18,8 @@ ghost use Rattle.model.specs.Full.{fullOutput};
 ghost use Rattle.model.specs.Answer.{said, outcome, after};
 ghost use Rattle.layout.specs.Answers.{Ends};
 ghost use Rattle.record.specs.Says.{FunctionSaid, ConstructorSaid, EventSaid, ErrorSaid};
-ghost use Rattle.full.specs.Parts.{SomeFields, SomeField, SomeKind, Extra, ExtraField, ExtraKind, PutIn, FieldsRoom, FieldRoom, KindRoom, FieldsWrote, FieldWrote, KindWrote};
+ghost use Rattle.record.specs.Encoded.{SomeFields, SomeField, SomeKind};
+ghost use Rattle.full.specs.Parts.{Extra, ExtraField, ExtraKind, PutIn, FieldsRoom, FieldRoom, KindRoom, FieldsWrote, FieldWrote, KindWrote};
 ghost use Rattle.full.specs.Lines.{SomeList, SomeReturns, ListLong, ReturnsLong, ReturnsRoom, ReturnsWrote, Line, LineFits, LineEnds};
 
 // The kind of a tuple's record.

@@ -7,4 +7,5 @@ pub mod Equations
 pub mod Walk
 pub mod Tops
 pub mod There
+pub mod Standing
 pub mod Whole

@@ -5,20 +5,23 @@ use mathlib.Core.Bool.{true, false≢true}
 use mathlib.Core.List.{List, [], _++_, append-assoc}
 use Prim.Native.Nat.{ℕ, zero, suc, _+_, _-_, _≤_, _<_}
 use native.Mathlib.Omega.{arith}
-use lib.ListN.{length, take, drop, length-append, length-drop}
+use lib.ListN.{length, take, drop, getD, length-append, length-take, length-drop}
 use lib.Seq.{take-at, drop-at, drop-drop}
 use Rattle.kinds.specs.Kind.{bits, octets, Elementary, int, uint, fixedBytes, address, bool, bytes, string}
 use Rattle.kinds.proofs.Logic.{left, right}
 use Rattle.model.specs.declared.Sort.{Sort}
 use Rattle.model.specs.declared.Sort.the-variants.{Plain}
 use Rattle.model.specs.Tree.{Base, elementary, tuple, Field, field, Fields, noField, moreFields}
-use Rattle.model.specs.Reading.{FieldKind, canSpecifyLocation, marks}
-use Rattle.model.specs.Layout.{littleEndian, leValue, recordOf}
+use Rattle.model.specs.Reading.{FieldKind, canSpecifyLocation, marks, deepest}
+use Rattle.model.specs.Layout.{littleEndian, leValue, recordOf, Bytes}
 use Rattle.model.specs.Record.{encodeElementary, encodeName, encodeBase, encodeSuffixes, encodeField, encodeFields, isMark, isFieldName, isBase, isField, areFields, longestRecord}
-use Rattle.model.proofs.Pieces.{le-length, le-read, record-length}
+use Rattle.model.proofs.Pieces.{bytes-take, bytes-drop, le-length, le-read, record-length}
 use Rattle.model.proofs.Marks.{mark-fits}
+use Rattle.model.proofs.Records.{inputs-spells}
 use Rattle.model.proofs.Scans.{part-rest}
-use Rattle.full.specs.Parts.{markIn, nameIn, kindIn, bodyOf, FieldsAre, FieldIs, KindIs}
+use Rattle.record.specs.declared.Measured.{Measured}
+use Rattle.record.specs.Says.{ListSaid}
+use Rattle.record.specs.Encoded.{markIn, nameIn, kindIn, bodyOf, FieldsAre, FieldIs, KindIs}
 
 -- a record and what stands behind it
 pub record RecordThere (t : List ℕ) (k : ℕ) (body r : List ℕ) : Type 0 where
@@ -63,21 +66,23 @@ unfolding encodeField
 field-record (field m nm b ss) = refl
 
 -- the first of fields
-record First (t : List ℕ) (gs : Fields) (sort : Sort) (d : ℕ) : Type 0 where
-  field : Field
-  fields : Fields
-  split : gs ≡ moreFields field fields
-  there : RecordThere t 0x10 (bodyOf field) (encodeFields 4 fields)
-  first-well : isField sort d field ≡ true
-  rest-well : areFields sort d fields ≡ true
+pub record First (t : List ℕ) (gs : Fields) (sort : Sort) (d : ℕ) : Type 0 where
+  pub field : Field
+  pub fields : Fields
+  pub split : gs ≡ moreFields field fields
+  pub bytes : t ≡ recordOf 4 0x10 (bodyOf field) ++ encodeFields 4 fields
+  pub there : RecordThere t 0x10 (bodyOf field) (encodeFields 4 fields)
+  pub first-well : isField sort d field ≡ true
+  pub rest-well : areFields sort d fields ≡ true
 
-first : (t : List ℕ) (gs : Fields) (sort : Sort) (d : ℕ) → t ≡ encodeFields 4 gs → areFields sort d gs ≡ true → 0 < length t → length t ≤ longestRecord → First t gs sort d
+pub first : (t : List ℕ) (gs : Fields) (sort : Sort) (d : ℕ) → t ≡ encodeFields 4 gs → areFields sort d gs ≡ true → 0 < length t → length t ≤ longestRecord → First t gs sort d
 unfolding encodeFields areFields
 first t noField sort d e w h s = absurd (omega (arith, ap length e))
 first t (moreFields f fs) sort d e w h s = record {
   field = f;
   fields = fs;
   split = refl;
+  bytes = e ∙ ap (λ x. x ++ encodeFields 4 fs) (field-record f);
   there = record-there t 0x10 (bodyOf f) (encodeFields 4 fs) (e ∙ ap (λ x. x ++ encodeFields 4 fs) (field-record f)) (omega arith) s;
   first-well = left (areFields sort d fs) w;
   rest-well = right (isField sort d f) w;
@@ -278,3 +283,18 @@ module _ (t : List ℕ) (k : FieldKind) (i : KindIs t k) (n : ℕ) (e : n ≡ le
 
   pub leaf-there : (n ≡ 9 → ⊥) → (x : Elementary) × (k .base ≡ elementary x)
   leaf-there q = leaf-by (k .base) (base .k) (base .body) (base .is) (λ z. q (number ∙ z))
+
+-- A list that was checked is the encoding of what it says: every lent slice is of bytes.
+module _ (b : List ℕ) (B : (i : ℕ) → getD b i 0 < 256) (h : length b ≤ longestRecord) where
+  its-bytes : Bytes b
+  unfolding Bytes
+  its-bytes = B
+
+  spot-small : (from to : ℕ) → length (take (to - from) (drop from b)) ≤ length b
+  spot-small from to = omega (arith, length-drop from b, length-take (to - from) (drop from b))
+
+  pub said-fields : (sort : Sort) (l : Measured) (fs : Fields) → ListSaid b sort l fs → FieldsAre (take (l .to - l .from) (drop (l .from) b)) fs
+  said-fields sort l fs w =
+      let t : List ℕ = take (l .to - l .from) (drop (l .from) b) in
+      let z : (areFields sort deepest fs ≡ true) × (t ≡ encodeFields 4 fs) = inputs-spells 4 sort .from t fs (bytes-take (l .to - l .from) (drop (l .from) b) (bytes-drop (l .from) b its-bytes)) (w .there) in
+      record { same = z .1; small = omega (arith, spot-small (l .from) (l .to)); sort = sort; d = deepest; well = z .0 }
