@@ -256,19 +256,19 @@ pub field-tree : (f : Field) → kindOf f ≡ treeOf (kindIn f)
 unfolding kindOf
 field-tree (field m nm b ss) = refl
 
-more-fields : (gs : Fields) (f : Field) (fs : Fields) → gs ≡ moreFields f fs → kindsOf gs ≡ moreKinds (treeOf (kindIn f)) (kindsOf fs)
+pub more-fields : (gs : Fields) (f : Field) (fs : Fields) → gs ≡ moreFields f fs → kindsOf gs ≡ moreKinds (treeOf (kindIn f)) (kindsOf fs)
 unfolding kindsOf
 more-fields gs f fs e = ap kindsOf e ∙ ap (λ k. moreKinds k (kindsOf fs)) (field-tree f)
 
-no-fields : (gs : Fields) → gs ≡ noField → kindsOf gs ≡ noKind
+pub no-fields : (gs : Fields) → gs ≡ noField → kindsOf gs ≡ noKind
 unfolding kindsOf
 no-fields gs e = ap kindsOf e
 
-ends-none : (ks : Kinds) → ks ≡ noKind → (anyDynamic ks ≡ false) × (headsLength ks ≡ 0)
+pub ends-none : (ks : Kinds) → ks ≡ noKind → (anyDynamic ks ≡ false) × (headsLength ks ≡ 0)
 unfolding anyDynamic headsLength
 ends-none ks e = (ap anyDynamic e, ap headsLength e)
 
-goes-more : (ks : Kinds) (k : Kind) (js : Kinds) → ks ≡ moreKinds k js → (anyDynamic ks ≡ (isDynamic k || anyDynamic js)) × (headsLength ks ≡ headLength k + headsLength js)
+pub goes-more : (ks : Kinds) (k : Kind) (js : Kinds) → ks ≡ moreKinds k js → (anyDynamic ks ≡ (isDynamic k || anyDynamic js)) × (headsLength ks ≡ headLength k + headsLength js)
 unfolding anyDynamic headsLength
 goes-more ks k js e = (ap anyDynamic e, ap headsLength e)
 

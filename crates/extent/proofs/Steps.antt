@@ -36,7 +36,7 @@ record KindHere (t : List ℕ) (f : Field) (r : List ℕ) (from to : ℕ) : Type
   is : KindIs (take (to - from) (drop from t)) (kindIn f)
   rest : drop to t ≡ r
 
-base-least : (b : Base) → 6 ≤ length (encodeBase 4 b)
+pub base-least : (b : Base) → 6 ≤ length (encodeBase 4 b)
 unfolding encodeBase encodeElementary
 base-least (Base.elementary (int (bits n))) = omega (arith, record-length 4 0x1 (littleEndian 2 n))
 base-least (Base.elementary (uint (bits n))) = omega (arith, record-length 4 0x2 (littleEndian 2 n))
