@@ -242,7 +242,7 @@ more-row : (d : List ℕ) (ks : Kinds) (k : Kind) (js : Kinds) (p : ℕ) → ks 
 unfolding inRow
 more-row d ks k js p e = ap (λ x. inRow d x p) e
 
-once-is : (r : ℕ → Option ℕ) (at : ℕ) → repeated 1 r at ≡ r at
+pub once-is : (r : ℕ → Option ℕ) (at : ℕ) → repeated 1 r at ≡ r at
 unfolding repeated
 once-is r at = go (r at)
   where

@@ -1,0 +1,6 @@
+pub mod Slices
+pub mod Saying
+pub mod Choosing
+pub mod Lasting
+pub mod Diving
+pub mod Joining
