@@ -1,19 +1,22 @@
 -- What the two calls on call data answer, by what `decode` says of the record. `outcome` and `after` of model's Answer say the rest.
 -- Assumes nothing.
+use mathlib.Core.Path.{_≡_}
 use mathlib.Core.Bool.{Bool, true, false, _||_}
 use mathlib.Core.List.{List, [], _∷_, _++_}
 use mathlib.Core.Option.{Option, none, some}
-use Prim.Native.Nat.{ℕ}
+use Prim.Native.Nat.{ℕ, _≤_}
 use lib.Dec.{ltb}
 use lib.ListN.{length}
 use Rattle.kinds.specs.Kind.{Kind, Kinds, noKind, moreKinds}
 use Rattle.model.specs.declared.Refusal.the-variants.{WrongSort, CallTooLong, NotAnEncoding}
-use Rattle.model.specs.Tree.{Declaration, kindsOf}
+use Rattle.model.specs.Tree.{Fields, Declaration, kindsOf}
 use Rattle.model.specs.Layout.{littleEndian}
 use Rattle.model.specs.Record.{decode}
 use Rattle.model.specs.Answer.{Output, writes, refuses}
 use Rattle.model.specs.Calls.{ofRecord}
 use Rattle.encoding.specs.Dynamic.{isDynamic, headLength, headsLength}
+use Rattle.encoding.specs.Values.{members, Values, areValues}
+use Rattle.encoding.specs.Encoding.{enc}
 use Rattle.encoding.specs.Judge.{isEncoding}
 
 -- "16 also here for anything but a function"
@@ -65,3 +68,15 @@ judgedBy d ks =
 
 unfoldable pub checkOutput : List ℕ → List ℕ → Output
 checkOutput b d = ofFunction b (judgedBy d)
+
+-- the data are the encoding of some values of the inputs of the function that the record b says
+pub record IsCall (b d : List ℕ) : Type 0 where
+  pub mutability : ℕ
+  pub name : List ℕ
+  pub inputs : Fields
+  pub outputs : Fields
+  pub says : decode b ≡ some (Declaration.function mutability name inputs outputs)
+  pub values : Values
+  pub good : areValues (kindsOf inputs) values ≡ true
+  pub same : d ≡ enc (Kind.tuple (kindsOf inputs)) (members values)
+  pub short : length d ≤ mostBytes

@@ -7,14 +7,14 @@ use lib.ListN.{length, take, drop}
 use Rattle.kinds.specs.Kind.{Kinds}
 use Rattle.model.specs.declared.Answer.{Answer}
 use Rattle.model.specs.Tree.{Fields, kindsOf}
-use Rattle.model.specs.Answer.{Output, refuses}
+use Rattle.model.specs.Answer.{Output, refuses, said, outcome}
 use Rattle.layout.specs.Buffer.{put}
 use Rattle.layout.proofs.Answers.{Ends}
 use Rattle.record.specs.Encoded.{FieldsAre}
 use Rattle.encoding.specs.Dynamic.{headsLength}
 use Rattle.calldata.specs.declared.Inputs.{Inputs}
 use Rattle.calldata.specs.declared.Inputs.the-variants as inputs
-use Rattle.calldata.specs.Calls.{ofFunction, mostBytes, headsBytes, headsBy}
+use Rattle.calldata.specs.Calls.{ofFunction, mostBytes, headsBytes, headsBy, judgedBy}
 
 -- the records of a function's inputs stand at a place of its record b
 pub record InputsAt (b : List ℕ) (from to : ℕ) : Type 0 where
@@ -48,3 +48,7 @@ HeadsWrote b out out₁ = (fs : Fields) → HeadsRoom b out fs → out₁ ≡ pu
 
 abbrev pub HeadsEnd : List ℕ → List ℕ → List ℕ → Answer → Type 0
 HeadsEnd b out out₁ r = (fs : Fields) → FieldsAre b fs → Ends (headsBy (kindsOf fs)) out out₁ r
+
+-- what is said of data, nothing being lent to write in
+abbrev pub Judged : List ℕ → List ℕ → Answer → Type 0
+Judged b d r = (fs : Fields) → FieldsAre b fs → said r ≡ outcome 0 (judgedBy d (kindsOf fs))

@@ -1,4 +1,4 @@
-// The heads of a function's inputs in call data.
+// Call data beside a function's record: the heads of its inputs, and whether data are the encoding of some values.
 use extent::Extent;
 use model::Answer;
 use model::Keyword;
@@ -12,8 +12,8 @@ ghost use Rattle.model.specs.Layout.{littleEndian};
 ghost use Rattle.model.specs.Answer.{said, outcome, after};
 ghost use Rattle.layout.specs.Buffer.{put};
 ghost use Rattle.record.specs.Encoded.{SomeFields};
-ghost use Rattle.calldata.specs.Calls.{flag, headsOutput};
-ghost use Rattle.calldata.specs.Parts.{InputsAre, HeadsLong, SomeHeads, HeadsWrote, HeadsEnd};
+ghost use Rattle.calldata.specs.Calls.{flag, headsOutput, checkOutput};
+ghost use Rattle.calldata.specs.Parts.{InputsAre, HeadsLong, SomeHeads, HeadsWrote, HeadsEnd, Judged};
 
 // How many bytes heads, or data, may have.
 const LIMIT: usize = 65536;
@@ -131,6 +131,37 @@ pub fn heads(record: &[u8], out: &mut [u8]) -> Answer
     let i = inputs_of(record);
     match i {
         Inputs::At { from, to } => heads_of(&record[from..to], out),
+        Inputs::Missing(refusal) => abi::refused(refusal),
+    }
+}
+
+// Data.
+
+// Whether data are the encoding of some values of the kinds of fields: 24 before 25.
+fn judged(b: &[u8], data: &[u8]) -> Answer
+    requires { ⌜ SomeFields (now b) ⌝ }
+    ensures { λ r. ⌜ Judged (now (b .entry)) (now («data» .entry)) r ⌝ }
+{
+    let e = extent::of_fields(b);
+    if LIMIT < e.head {
+        return abi::refused(Refusal::CallTooLong);
+    }
+    if LIMIT < data.len() {
+        return abi::refused(Refusal::CallTooLong);
+    }
+    if judge::encoded(b, data) {
+        return Answer::Accepted { length: 0 };
+    }
+    abi::refused(Refusal::NotAnEncoding)
+}
+
+// "A second call judges the data by the same record, writing nothing."
+pub fn check(record: &[u8], data: &[u8]) -> Answer
+    ensures says { λ r. ⌜ said r ≡ outcome 0 (checkOutput (now («record» .entry)) (now («data» .entry))) ⌝ }
+{
+    let i = inputs_of(record);
+    match i {
+        Inputs::At { from, to } => judged(&record[from..to], data),
         Inputs::Missing(refusal) => abi::refused(refusal),
     }
 }
