@@ -19,7 +19,8 @@ use Rattle.model.specs.Answer.{Output, writes, refuses}
 use Rattle.model.proofs.Pieces.{le-length}
 use Rattle.layout.specs.Buffer.{put}
 use Rattle.layout.proofs.Puts.{length-put, put-then}
-use Rattle.layout.proofs.Answers.{Ends, ends-refused, ends-full, ends-written}
+use Rattle.layout.specs.Answers.{Ends}
+use Rattle.layout.proofs.Answers.{ends-refused, ends-full, ends-written}
 use Rattle.record.specs.declared.Spot.{Spot}
 use Rattle.record.specs.Encoded.{kindIn, FieldsAre, SomeFields, SomeKind}
 use Rattle.abi.proofs.Stores.{store-1, put-none}

@@ -9,7 +9,7 @@ use Rattle.model.specs.declared.Answer.{Answer}
 use Rattle.model.specs.Tree.{Fields, kindsOf}
 use Rattle.model.specs.Answer.{Output, refuses, said, outcome}
 use Rattle.layout.specs.Buffer.{put}
-use Rattle.layout.proofs.Answers.{Ends}
+use Rattle.layout.specs.Answers.{Ends}
 use Rattle.record.specs.Encoded.{FieldsAre}
 use Rattle.encoding.specs.Dynamic.{headsLength}
 use Rattle.calldata.specs.declared.Inputs.{Inputs}
