@@ -17,7 +17,7 @@ unfolding leaf
 returns c = word-short _ _ (c .before .before .before .pre .0) _ _ (c .before .if1 .taken) (c .none .ensures)
 
 padding-requires : tie.Need-padding-requires
-padding-requires c κs = (omega arith, length-bounds _ (c .before .before .pre .1) .1, omega arith)
+padding-requires c κs = omega (arith, length-bounds (c .before .before .args .n) (c .before .before .pre .1))
 
 add-result : tie.Need-add-result
 add-result c = search needs
