@@ -4,7 +4,7 @@
  * A call reads the bytes that its first pointer and length lend, and writes into the `room` bytes that its second pointer
  * lends. It returns 0 on acceptance, and *value is then the length of what it wrote: that many first bytes of the buffer
  * are new, and the later ones are as they were. Otherwise it returns the number of a refusal, *value is its position, and
- * the whole buffer is as it was.
+ * the whole buffer is as it was. geusomin_check_data reads what both its pointers lend and writes into neither.
  *
  * Positions are byte offsets from 0 in the text that was lent, or, of a sheet, in one of its lines. Nothing is terminated by
  * a zero, neither what is lent nor what is written: texts, records, lines, names and messages are bytes with a length, and a
@@ -16,8 +16,8 @@
  *     sets, nor two such numbers,
  *   - no pointer is null, not even one whose length is 0.
  * Beyond that, any bytes and any lengths have an answer. No call allocates or keeps anything, so threads may call at the
- * same time, each with buffers of its own. As built on x86-64, geusomin_parse_sheet takes less than 160 KB of stack in all,
- * and every other call less than 64 KB.
+ * same time, each with buffers of its own. As built on x86-64, geusomin_parse_sheet and geusomin_check_data take less than
+ * 160 KB of stack in all, and every other call less than 64 KB.
  */
 #ifndef GEUSOMIN_H
 #define GEUSOMIN_H
@@ -29,7 +29,7 @@
 extern "C" {
 #endif
 
-#define GEUSOMIN_VERSION "0.7.0"
+#define GEUSOMIN_VERSION "0.8.0"
 
 /* A text of more than GEUSOMIN_TEXT_MAX bytes is refused with 8. A record of more than GEUSOMIN_RECORD_MAX bytes is not
    well formed, and a reading call writes at most 10 bytes for each byte of its text, so a buffer of GEUSOMIN_RECORD_MAX
@@ -52,6 +52,11 @@ extern "C" {
 #define GEUSOMIN_SHEET_MAX 655366
 #define GEUSOMIN_DECLARATIONS_MAX 512
 
+/* What geusomin_heads writes is less than a quarter as long as the record, so a buffer of GEUSOMIN_HEADS_MAX bytes is room
+   enough for it. Heads, and data, of more than GEUSOMIN_DATA_MAX bytes are refused with 24. */
+#define GEUSOMIN_HEADS_MAX 10240
+#define GEUSOMIN_DATA_MAX 65536
+
 /* The refusals. "Wanted" is what the reader looked for where the position says. Each call below names those that it can
    give, and gives no other. */
 enum geusomin_refusal {
@@ -72,13 +77,17 @@ enum geusomin_refusal {
     /* 14 was "kind text starts with `(`" until 0.2; nothing has it now, since such texts are read */
     /* of lent records, at position 0 */
     GEUSOMIN_NOT_WELL_FORMED = 15,     /* record not well formed, or of the wrong sort: a field where a declaration is due */
-    GEUSOMIN_WRONG_SORT = 16,          /* canonical or name of a constructor, or signature of anything but a function */
+    GEUSOMIN_WRONG_SORT = 16,          /* canonical or name of a constructor, or signature, heads or data of anything but a
+                                          function */
     /* of lent buffers */
     GEUSOMIN_NO_ROOM = 20,             /* too short for the whole output, position 0 */
     /* of sheets, at position 0 */
     GEUSOMIN_SHEET_TOO_LONG = 21,      /* text over 65,536 bytes, line 0 */
     GEUSOMIN_TOO_MANY_DECLARATIONS = 22, /* more than 512 declarations, at the line of the 513th */
-    GEUSOMIN_REPEATED = 23             /* keyword and canonical text of an earlier line, or a second constructor */
+    GEUSOMIN_REPEATED = 23,            /* keyword and canonical text of an earlier line, or a second constructor */
+    /* of call data, at position 0 */
+    GEUSOMIN_CALL_TOO_LONG = 24,       /* total head, or for geusomin_check_data the data, over 65,536 bytes */
+    GEUSOMIN_NOT_AN_ENCODING = 25      /* the data are no encoding of values of the inputs' kinds */
 };
 
 /* What a refusal's number says, in the words of docs/01-scope.md and docs/02-change-requests.md; NULL for a number that is
@@ -124,6 +133,10 @@ static inline const char *geusomin_refusal_text(uint32_t number)
         return "more than 512 declarations";
     case GEUSOMIN_REPEATED:
         return "same keyword and same canonical text (or a second constructor) as an earlier line";
+    case GEUSOMIN_CALL_TOO_LONG:
+        return "total head, or in the second call the data, over 65,536 bytes";
+    case GEUSOMIN_NOT_AN_ENCODING:
+        return "the data are no such encoding";
     default:
         return NULL;
     }
@@ -220,6 +233,22 @@ uint32_t geusomin_kind_text(const uint8_t *record, size_t record_len, uint8_t *t
 
 /* The name of a function, an event, an error or a field; a field's may be empty. Refusals: 15, 16, 20. */
 uint32_t geusomin_copy_name(const uint8_t *record, size_t record_len, uint8_t *text, size_t room, size_t *value);
+
+/*
+ * The calls on call data take a function's record, of any origin and checked first, and go by the kinds of its inputs. Call
+ * data are the bytes of a call's arguments, without the four bytes of the selector in front. They are encoded as the
+ * Solidity Contract ABI Specification says in its section Formal Specification of the Encoding. `bytes`, `string`, every
+ * open array, fixed arrays of dynamic elements (even of none) and tuples with a dynamic part are dynamic, all else is static.
+ */
+
+/* For each input in order 5 bytes: 1 if it is dynamic, else 0; its head length in bytes, a number of 4 bytes: 32 if it is
+   dynamic, else the whole length of its values. 24 comes before 20. Refusals: 15, 16, 20, 24. */
+uint32_t geusomin_heads(const uint8_t *record, size_t record_len, uint8_t *heads, size_t room, size_t *value);
+
+/* Whether all of the data are the encoding of some values: offsets as the Specification's encoder sets them, with no gap and
+   nothing shared; its padding, the sign repeated for `int` and zero otherwise; any bytes in a `string`; no open array of over
+   65,536 elements. Nothing is written: on acceptance *value is 0. Refusals: 15, 16, 24, 25. */
+uint32_t geusomin_check_data(const uint8_t *record, size_t record_len, const uint8_t *data, size_t data_len, size_t *value);
 
 /*
  * The message call writes the message of the error that the reading call of that name finds in a text, as

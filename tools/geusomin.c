@@ -41,6 +41,7 @@ static const struct {
     {"signature", geusomin_signature},
     {"full", geusomin_full_text},
     {"name", geusomin_copy_name},
+    {"heads", geusomin_heads},
     {"message:general", geusomin_message_declaration},
     {"message:function", geusomin_message_function},
     {"message:constructor", geusomin_message_constructor},
@@ -50,8 +51,8 @@ static const struct {
 
 #define CALLS (sizeof calls / sizeof *calls)
 
-/* And the one that tells a line, geusomin_parse_sheet. */
-static const char sheet_call[] = "sheet";
+/* And those of another form: geusomin_parse_sheet tells a line, geusomin_check_data is lent data in place of room. */
+static const char sheet_call[] = "sheet", data_call[] = "check_data";
 
 struct bytes {
     const uint8_t *at;
@@ -557,18 +558,24 @@ static uint8_t *allocate(size_t size)
     return block;
 }
 
+/* What is none ends the program before there is a block. */
+static void see_hex(struct bytes hex)
+{
+    if (hex.length == 0)
+        stop_replay("no bytes are given");
+    if (is(hex, "-"))
+        return;
+    if (hex.length % 2 != 0)
+        stop_replay("the bytes are not in pairs of digits");
+    for (size_t i = 0; i < hex.length; i++)
+        digit_of(hex.at[i]);
+}
+
 static struct bytes decoded(struct bytes hex)
 {
     size_t length = is(hex, "-") ? 0 : hex.length / 2;
-    uint8_t *block;
+    uint8_t *block = allocate(length);
 
-    if (hex.length == 0)
-        stop_replay("no bytes are given");
-    if (!is(hex, "-") && hex.length % 2 != 0)
-        stop_replay("the bytes are not in pairs of digits");
-    for (size_t i = 0; i < 2 * length; i++)
-        digit_of(hex.at[i]); /* what is none ends the program before there is a block */
-    block = allocate(length);
     for (size_t i = 0; i < length; i++)
         block[i] = (uint8_t)(digit_of(hex.at[2 * i]) << 4 | digit_of(hex.at[2 * i + 1]));
     return (struct bytes){block, length};
@@ -592,15 +599,38 @@ static bool is_kept(const uint8_t *bytes, size_t length)
     return true;
 }
 
-static void replay_line(struct bytes line)
+static void replay_data(struct bytes record_hex, struct bytes data_hex)
 {
-    struct bytes name = take_field(&line), hex = take_field(&line), in;
+    struct bytes record, data;
+    size_t value = 1;
+    uint32_t refusal;
+
+    see_hex(record_hex);
+    see_hex(data_hex);
+    record = decoded(record_hex);
+    data = decoded(data_hex);
+    refusal = geusomin_check_data(record.at, record.length, data.at, data.length, &value);
+    if (refusal == 0 && value != 0)
+        stop(FAILED, "the library", "data that are accepted have a length");
+    if (refusal == 0)
+        print_text("ok -");
+    else
+        print_refusal(refusal, value);
+    print_text("\n");
+    free((void *)record.at);
+    free((void *)data.at);
+}
+
+static void replay_call(struct bytes name, struct bytes hex, struct bytes room_field)
+{
+    struct bytes in;
     bool is_sheet = is(name, sheet_call);
     call *run = is_sheet ? NULL : call_named(name);
-    size_t room = room_of(line, is_sheet ? SHEET_ROOM_MAX : ROOM_MAX), size = room + PAST_ROOM, value = 0, told = 1, written;
+    size_t room = room_of(room_field, is_sheet ? SHEET_ROOM_MAX : ROOM_MAX), size = room + PAST_ROOM, value = 0, told = 1, written;
     uint8_t *out;
     uint32_t refusal;
 
+    see_hex(hex);
     in = decoded(hex);
     out = allocate(size);
     memset(out, FILL, size);
@@ -624,6 +654,16 @@ static void replay_line(struct bytes line)
     print_text(is_kept(out + written, size - written) ? "\n" : " damaged\n");
     free(out);
     free((void *)in.at);
+}
+
+static void replay_line(struct bytes line)
+{
+    struct bytes name = take_field(&line), hex = take_field(&line);
+
+    if (is(name, data_call))
+        replay_data(hex, line);
+    else
+        replay_call(name, hex, line);
 }
 
 static enum status replay(void)
@@ -759,7 +799,7 @@ static const char about[] =
     "               how many it has, its record's length; or `no NUMBER LINE POSITION`, and behind a tab the line's message\n"
     "  replay       read lines `CALL HEX ROOM` from standard input and print `ok HEX` or `no NUMBER POSITION` for each, of\n"
     "               a sheet `no NUMBER LINE POSITION`. HEX is in lower case, `-` for no bytes; ROOM is how many bytes the\n"
-    "               call is lent, `-` for the most, 131072, for a sheet 2097152\n"
+    "               call is lent, `-` for the most, 131072, for a sheet 2097152. check_data has HEX for ROOM, the data\n"
     "  bench FILE   time the general, canonical, signature and full calls over a file of declarations\n"
     "\n"
     "A first argument `sheet`, `replay` or `bench` is the command; ./sheet names the file.\n"
@@ -784,8 +824,10 @@ static enum status help(void)
     }
     print_text("  ");
     print_text(sheet_call);
+    print_text("\n  ");
+    print_text(data_call);
     print_text("\n\nRefusals:\n");
-    for (uint32_t number = 1; number <= GEUSOMIN_REPEATED; number++) {
+    for (uint32_t number = 1; number <= GEUSOMIN_NOT_AN_ENCODING; number++) {
         if (geusomin_refusal_text(number) != NULL) {
             print_text(number < 10 ? "   " : "  ");
             print_number(number);

@@ -24,7 +24,7 @@ ANONYMOUS = 1
 VISIBILITIES = ("external", "public")
 MOST_BYTES = 4096
 LONGEST_RECORD = 40960
-RECORD_CALLS = ("canonical", "signature", "full", "kind_text", "name")
+RECORD_CALLS = ("canonical", "signature", "full", "kind_text", "name", "heads")
 
 
 def hexed(b):
@@ -215,7 +215,7 @@ def of_field(r, text):
     whole, (_, name) = mark_of(r) == UNMARKED, next(parts(r[8:], 8))
     yield from answered("kind_text", r, text if whole else NOT_WELL_FORMED)
     yield from answered("name", r, name[6:] if whole else NOT_WELL_FORMED)
-    for call in ("canonical", "signature", "full"):
+    for call in ("canonical", "signature", "full", "heads"):
         yield from refused(call, r, NOT_WELL_FORMED)
     if not whole:
         yield from of_field(r[:6] + number(UNMARKED, 2) + r[8:], text)

@@ -1,10 +1,10 @@
 /*
- * The calls on memory that ends where the lent bytes end. Reads lines `CALL HEX ROOM` as `geusomin replay` does and prints
- * the same for each. Every line is run twice: input, buffer, *value and *line first begin where their memory begins, then
- * end where it ends, and before and behind it lies memory without access. All of it runs on a stack of 64 KB. So a call
- * that touches a byte beyond what it was lent, or takes too much stack, ends the program by the signal SIGSEGV. Behind an
- * answer stands ` damaged` where the input, or a byte that the answer does not count as written, has changed, and
- * ` differs` where the second run is answered otherwise.
+ * The calls on memory that ends where the lent bytes end. Reads lines `CALL HEX ROOM`, or `CALL HEX HEX` for a call that is
+ * lent data in place of room, as `geusomin replay` does and prints the same for each. Every line is run twice: input, data,
+ * buffer, *value and *line first begin where their memory begins, then end where it ends, and before and behind it lies
+ * memory without access. All of it runs on a stack of 64 KB. So a call that touches a byte beyond what it was lent, or takes
+ * too much stack, ends the program by the signal SIGSEGV. Behind an answer stands ` damaged` where the input, the data, or a
+ * byte that the answer does not count as written, has changed, and ` differs` where the second run is answered otherwise.
  *
  * `guarded STACK ROOM` runs it on a stack of so many bytes, with at most so much room.
  *
@@ -30,6 +30,7 @@
 
 typedef uint32_t call(const uint8_t *in, size_t length, uint8_t *out, size_t room, size_t *value);
 typedef uint32_t lined_call(const uint8_t *in, size_t length, uint8_t *out, size_t room, size_t *value, size_t *line);
+typedef uint32_t data_call(const uint8_t *in, size_t length, const uint8_t *data, size_t data_length, size_t *value);
 
 static size_t stack_size = 65536, most_room = 131072;
 
@@ -147,6 +148,48 @@ static uint32_t tells_line_of_places(const uint8_t *in, size_t length, uint8_t *
     return GEUSOMIN_REPEATED;
 }
 
+static uint32_t touches_data(const uint8_t *in, size_t length, const uint8_t *data, size_t data_length, size_t *value)
+{
+    static volatile uint8_t seen;
+
+    for (size_t i = 0; i < length; i++)
+        seen = in[i];
+    for (size_t i = 0; i < data_length; i++)
+        seen = data[i];
+    (void)seen;
+    *value = 0;
+    return 0;
+}
+
+static uint32_t reads_before_data(const uint8_t *in, size_t length, const uint8_t *data, size_t data_length, size_t *value)
+{
+    (void)in, (void)length, (void)data_length;
+    *value = ((const volatile uint8_t *)data)[-1];
+    return GEUSOMIN_NOT_AN_ENCODING;
+}
+
+static uint32_t reads_behind_data(const uint8_t *in, size_t length, const uint8_t *data, size_t data_length, size_t *value)
+{
+    (void)in, (void)length;
+    *value = ((const volatile uint8_t *)data)[data_length];
+    return GEUSOMIN_NOT_AN_ENCODING;
+}
+
+static uint32_t changes_data(const uint8_t *in, size_t length, const uint8_t *data, size_t data_length, size_t *value)
+{
+    (void)in, (void)length;
+    ((uint8_t *)data)[data_length - 1] ^= 1;
+    *value = 0;
+    return 0;
+}
+
+static uint32_t tells_length_of_data(const uint8_t *in, size_t length, const uint8_t *data, size_t data_length, size_t *value)
+{
+    (void)in, (void)length, (void)data;
+    *value = data_length;
+    return 0;
+}
+
 static const struct {
     const char *name;
     call *run;
@@ -162,6 +205,7 @@ static const struct {
     {"signature", geusomin_signature},
     {"full", geusomin_full_text},
     {"name", geusomin_copy_name},
+    {"heads", geusomin_heads},
     {"message:general", geusomin_message_declaration},
     {"message:function", geusomin_message_function},
     {"message:constructor", geusomin_message_constructor},
@@ -189,10 +233,23 @@ static const struct {
     {"tells_line_of_places", tells_line_of_places},
 };
 
-/* A call of either sort. */
+static const struct {
+    const char *name;
+    data_call *run;
+} data_calls[] = {
+    {"check_data", geusomin_check_data},
+    {"touches_data", touches_data},
+    {"reads_before_data", reads_before_data},
+    {"reads_behind_data", reads_behind_data},
+    {"changes_data", changes_data},
+    {"tells_length_of_data", tells_length_of_data},
+};
+
+/* A call of one of the sorts. */
 struct named {
     call *run;
     lined_call *run_lined;
+    data_call *run_data;
 };
 
 /* Memory between guards. */
@@ -202,7 +259,7 @@ struct memory {
     size_t size;
 };
 
-static struct memory input, output, number, line_number;
+static struct memory input, data_input, output, number, line_number;
 
 static struct memory guarded(size_t size)
 {
@@ -226,6 +283,12 @@ static bool is_filled(const uint8_t *bytes, size_t length)
 
 /* One run. */
 
+/* What a call is lent, in a copy that it does not see. */
+struct lending {
+    const uint8_t *given, *data;
+    size_t length, data_length, room;
+};
+
 struct answer {
     uint32_t refusal;
     size_t value, line, written;
@@ -234,17 +297,21 @@ struct answer {
 };
 
 /* The memory of the buffer is filled before and after. */
-static void run(struct named tried, const uint8_t *given, size_t length, size_t room, bool at_end, struct answer *answer)
+static void run(struct named tried, const struct lending *lending, bool at_end, struct answer *answer)
 {
-    uint8_t *in = lent(input, length, at_end), *out = lent(output, room, at_end), *behind;
+    size_t length = lending->length, data_length = lending->data_length, room = lending->room;
+    uint8_t *in = lent(input, length, at_end), *data = lent(data_input, data_length, at_end), *out = lent(output, room, at_end), *behind;
     size_t *value = (size_t *)(void *)lent(number, sizeof *value, at_end);
     size_t *line = (size_t *)(void *)lent(line_number, sizeof *line, at_end);
 
-    memcpy(in, given, length);
-    *line = 1;
+    memcpy(in, lending->given, length);
+    memcpy(data, lending->data, data_length);
+    *value = *line = 1;
     answer->lined = tried.run_lined != NULL;
     if (answer->lined)
         answer->refusal = tried.run_lined(in, length, out, room, value, line);
+    else if (tried.run_data != NULL)
+        answer->refusal = tried.run_data(in, length, data, data_length, value);
     else
         answer->refusal = tried.run(in, length, out, room, value);
     answer->value = *value;
@@ -255,8 +322,8 @@ static void run(struct named tried, const uint8_t *given, size_t length, size_t 
     if (answer->lined && answer->refusal == 0 && *line != 0)
         fail("an accepted sheet has a line");
     behind = out + answer->written;
-    answer->damaged = memcmp(in, given, length) != 0 || !is_filled(output.at, (size_t)(out - output.at))
-        || !is_filled(behind, (size_t)(output.at + output.size - behind));
+    answer->damaged = memcmp(in, lending->given, length) != 0 || memcmp(data, lending->data, data_length) != 0
+        || !is_filled(output.at, (size_t)(out - output.at)) || !is_filled(behind, (size_t)(output.at + output.size - behind));
     memcpy(answer->bytes, out, answer->written);
     memset(answer->damaged ? output.at : out, FILL, answer->damaged ? output.size : answer->written);
 }
@@ -286,10 +353,13 @@ static struct named call_named(const char *name)
 {
     for (size_t i = 0; i < sizeof calls / sizeof *calls; i++)
         if (strcmp(name, calls[i].name) == 0)
-            return (struct named){calls[i].run, NULL};
+            return (struct named){calls[i].run, NULL, NULL};
     for (size_t i = 0; i < sizeof lined_calls / sizeof *lined_calls; i++)
         if (strcmp(name, lined_calls[i].name) == 0)
-            return (struct named){NULL, lined_calls[i].run};
+            return (struct named){NULL, lined_calls[i].run, NULL};
+    for (size_t i = 0; i < sizeof data_calls / sizeof *data_calls; i++)
+        if (strcmp(name, data_calls[i].name) == 0)
+            return (struct named){NULL, NULL, data_calls[i].run};
     fail("no such call");
 }
 
@@ -307,21 +377,33 @@ static size_t decode(const char *hex, uint8_t *bytes)
     return length;
 }
 
-static void run_line(char *line)
+static size_t room_of(const char *field)
 {
-    static uint8_t given[INPUT_MAX];
-    static struct answer first, second;
-    const char *name = strtok(line, " \n"), *hex = strtok(NULL, " \n"), *space = strtok(NULL, " \n");
-    size_t length, room;
+    size_t room = strcmp(field, "-") == 0 ? most_room : strtoul(field, NULL, 10);
 
-    if (space == NULL)
-        fail("a line is no call");
-    length = decode(hex, given);
-    room = strcmp(space, "-") == 0 ? most_room : strtoul(space, NULL, 10);
     if (room > most_room)
         fail("too much room");
-    run(call_named(name), given, length, room, false, &first);
-    run(call_named(name), given, length, room, true, &second);
+    return room;
+}
+
+static void run_line(char *line)
+{
+    static uint8_t given[INPUT_MAX], data[INPUT_MAX];
+    static struct answer first, second;
+    const char *name = strtok(line, " \n"), *hex = strtok(NULL, " \n"), *last = strtok(NULL, " \n");
+    struct lending lending = {given, data, 0, 0, 0};
+    struct named tried;
+
+    if (last == NULL)
+        fail("a line is no call");
+    tried = call_named(name);
+    lending.length = decode(hex, given);
+    if (tried.run_data != NULL)
+        lending.data_length = decode(last, data);
+    else
+        lending.room = room_of(last);
+    run(tried, &lending, false, &first);
+    run(tried, &lending, true, &second);
     print_answer(&first);
     puts(first.damaged || second.damaged ? " damaged" : is_same(&first, &second) ? "" : " differs");
 }
@@ -353,6 +435,7 @@ int main(int argc, char **argv)
     /* what was answered is out where a call ends the program */
     setvbuf(stdout, NULL, _IOLBF, 0);
     input = guarded(INPUT_MAX);
+    data_input = guarded(INPUT_MAX);
     output = guarded(most_room);
     number = guarded(VALUE_MAX);
     line_number = guarded(VALUE_MAX);

@@ -1,7 +1,7 @@
 """Tests of the header: the refusals and their texts are the documents', and each call gives the refusals that its comment names.
 
 A number's words stand behind it in document 01, up to its position or the end of the sentence; 11 to 13 share theirs. A number
-that document 02 says is no longer given has none; one that an order adds has its words there, up to a comma.
+that document 02 says is no longer given has none; one that an order adds has its words there, up to where it comes.
 """
 import re
 import shutil
@@ -11,12 +11,16 @@ VERSION = re.compile(r'^#define GEUSOMIN_VERSION "(\d+\.\d+\.\d+)"$', re.M)
 STRICT = ["-Wall", "-Wextra", "-Wpedantic", "-Werror"]
 LANGUAGES = {"C99": ["gcc", "-std=c99", "-x", "c"], "C11": ["gcc", "-std=c11", "-x", "c"], "C++": ["g++", "-x", "c++"]}
 NUMBERS = (*range(41), 2 ** 32 - 1)  # those that header.c asks for
-ORDERS = 7  # so many orders of document 02 are in
+ORDERS = 8  # so many orders of document 02 are in
+
+
+CLAUSE = re.compile(r"(\d+)(?:, in the second call only,)? (.*?), (?:first|at|found|after|before|carrying|in place) ")
 
 
 def order_words(orders):
-    """Of the refusals that these orders add."""
-    return {int(n): text for n, text in re.findall(r"(?:Refused: |; )(\d+) (.*?)(?=, )", orders)}
+    """Of the refusals that these orders add: what stands between a number and where it is given."""
+    clauses = (clause for listed in re.findall(r"Refused: (.*?)\.(?: |$)", orders, re.M) for clause in listed.split("; "))
+    return {int(found[1]): found[2] for clause in clauses if (found := CLAUSE.match(clause))}
 
 
 def document_words(top):

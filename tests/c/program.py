@@ -356,13 +356,20 @@ def malformed_calls_end_replay(program):
         (b"general 0g -", "the bytes are not in lower-case hex"),
         (b"general 6F -", "the bytes are not in lower-case hex"),
         (b"sheet - 2097153", "the room is too large"),
+        (b"heads - 131073", "the room is too large"),
+        (b"check_data", "no bytes are given"),
+        (b"check_data -", "no bytes are given"),
+        (b"check_data - 0", "the bytes are not in pairs of digits"),
+        (b"check_data 0g -", "the bytes are not in lower-case hex"),
+        (b"check_data - 0G", "the bytes are not in lower-case hex"),
+        (b"check_data - - ", "the bytes are not in lower-case hex"),
         (b"general " + b"00" * (1 << 22) + b" -", "the line is too long"),
     ):
         told = f"geusomin: replay: line 3: {why}\n".encode()
         same(run([program, "replay"], CALL * 2 + line + b"\n" + CALL), (2, b"no 4 0\n" * 2, told))
         with open("/dev/full", "wb") as full:
             failed(run([program, "replay"], CALL + line + b"\n", stdout=full), "standard output", errno.ENOSPC, None)
-    same(run([program, "replay"], b"general - 131072\nsheet - 2097152"), (0, b"no 4 0\nok 060000003000\n", b""))
+    same(run([program, "replay"], b"general - 131072\nsheet - 2097152\ncheck_data - -"), (0, b"no 4 0\nok 060000003000\nno 15 0\n", b""))
 
 
 @test
