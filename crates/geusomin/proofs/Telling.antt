@@ -9,7 +9,9 @@ use Rattle.model.specs.declared.Refusal.{Refusal}
 use Rattle.model.specs.declared.Refusal.the-variants.{NotWellFormed, WrongSort}
 use Rattle.model.specs.declared.Answer.{Answer}
 use Rattle.model.specs.declared.Answer.the-variants.{Accepted, Refused}
-use Rattle.model.specs.Answer.{Output, writes, refuses, number, said, outcome, after, handed, refusalNumber}
+use Rattle.model.specs.declared.Search.{Search}
+use Rattle.model.specs.declared.Search.the-variants.{At, Missing}
+use Rattle.model.specs.Answer.{Outcome, Output, writes, refuses, number, said, outcome, after, handed, refusalNumber}
 use Rattle.model.specs.Tree.{Declaration, Field}
 use Rattle.model.specs.Line.{nameOf, fieldName}
 use Rattle.model.specs.Record.{decode, decodeLone}
@@ -26,6 +28,10 @@ module _ (a : Answer) where
   pub tells-refused : (w : Refusal) (p r : ℕ) → a ≡ Refused w p → r ≡ number w → (r ≡ code (said a)) × (p ≡ worth (said a))
   unfolding code worth said
   tells-refused w p r e f = (rw e f, rw e)
+
+  -- a call that writes nothing: what it says is told
+  pub told-so : (x : Outcome) (r v : ℕ) → said a ≡ x → r ≡ code (said a) → v ≡ worth (said a) → (r ≡ code x) × (v ≡ worth x)
+  told-so x r v e h k = (h ∙ ap code e, k ∙ ap worth e)
 
   -- any call: what it says is told, and what it leaves stays
   pub told : (o : Output) (b b₁ : List ℕ) (r v : ℕ) → said a ≡ outcome (length b) o → b₁ ≡ after b o → r ≡ code (said a) → v ≡ worth (said a)

@@ -9,6 +9,8 @@ ghost use Rattle.model.specs.Calls.{readOutput, kindOutput, canonicalOutput, si
 ghost use Rattle.model.specs.Full.{fullOutput};
 ghost use Rattle.model.specs.Message.{messageOutput};
 ghost use Rattle.model.specs.Sheet.{sheetOutput};
+ghost use Rattle.model.specs.Find.{told, findOutput};
+ghost use Rattle.calldata.specs.Calls.{headsOutput, checkOutput};
 ghost use Rattle.geusomin.specs.Told.{code, worth};
 
 // An answer in two numbers.
@@ -139,6 +141,23 @@ pub extern "C" fn geusomin_full_text(record: &[u8], text: &mut [u8], value: &mut
     ensures left { λ _. ⌜ now (text .exit) ≡ after (now (text .entry)) (fullOutput (now («record» .entry))) ⌝ }
 {
     tell(full::full_text(record, text), value)
+}
+
+#[no_mangle]
+pub extern "C" fn geusomin_heads(record: &[u8], out: &mut [u8], value: &mut usize) -> u32
+    ensures tells { λ r. ⌜ r ≡ code (outcome (length (now (out .entry))) (headsOutput (now («record» .entry)))) ⌝ }
+    ensures shows { λ _. ⌜ now (value .exit) ≡ worth (outcome (length (now (out .entry))) (headsOutput (now («record» .entry)))) ⌝ }
+    ensures left { λ _. ⌜ now (out .exit) ≡ after (now (out .entry)) (headsOutput (now («record» .entry))) ⌝ }
+{
+    tell(calldata::heads(record, out), value)
+}
+
+#[no_mangle]
+pub extern "C" fn geusomin_check_data(record: &[u8], data: &[u8], value: &mut usize) -> u32
+    ensures tells { λ r. ⌜ r ≡ code (outcome 0 (checkOutput (now («record» .entry)) (now («data» .entry)))) ⌝ }
+    ensures shows { λ _. ⌜ now (value .exit) ≡ worth (outcome 0 (checkOutput (now («record» .entry)) (now («data» .entry)))) ⌝ }
+{
+    tell(calldata::check(record, data), value)
 }
 
 // A part, copied whole or not at all.
