@@ -23,6 +23,7 @@ pub enum Refusal {
     Repeated,
     CallTooLong,
     NotAnEncoding,
+    NoSuchFunction,
 }
 
 // What a call answers: the length of what it wrote, or why it refuses and where.

@@ -28,5 +28,6 @@ pub fn number(refusal: Refusal) -> u32
         Refusal::Repeated => 23,
         Refusal::CallTooLong => 24,
         Refusal::NotAnEncoding => 25,
+        Refusal::NoSuchFunction => 26,
     }
 }
