@@ -29,3 +29,6 @@ pub mod Demand
 pub mod Full
 pub mod Sheets
 pub mod SheetExamples
+pub mod Distinct
+pub mod Finding
+pub mod FindExamples

@@ -8,7 +8,7 @@ use Rattle.model.specs.Answer.{writes}
 use Rattle.model.specs.Sheet.{lineFeed, linesOf, isBlankLine, readLines, repeats, has, firstRepeat, encodeAll, encodeSheet, OnLine, refusesOn, sheetBy, sheetOutput}
 use Rattle.model.proofs.Evaluation.{evaluation}
 
-unfoldable sheets : Unit {0}
+unfoldable pub sheets : Unit {0}
 unfolding evaluation linesOf isBlankLine readLines repeats has firstRepeat encodeAll encodeSheet sheetBy sheetOutput
 sheets = tt
 

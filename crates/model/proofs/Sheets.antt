@@ -101,7 +101,7 @@ unfolding decodeSheet
 sheet-exactly b ds h = (alone-from 4 sheetFrom wellFormedSheet encodeSheet sheet-reads b ds h, λ p. rw (p .1) (sheet-back ds (p .0)))
 
 -- repeats are told exactly: "same keyword and same canonical text (or a second constructor)"
-text-same : (o p : Option (List ℕ)) → (sameText o p ≡ true) ↔ (o ≡ p)
+pub text-same : (o p : Option (List ℕ)) → (sameText o p ≡ true) ↔ (o ≡ p)
 text-same none none = (λ h. refl, λ q. refl)
 text-same none (some u) = (λ h. absurd (false≢true h), λ q. absurd (Option·none-ne-some u q))
 text-same (some t) none = (λ h. absurd (false≢true h), λ q. absurd (Option·none-ne-some t (sym q)))

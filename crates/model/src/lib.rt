@@ -32,6 +32,12 @@ pub enum Answer {
     Refused { refusal: Refusal, position: usize },
 }
 
+// What the search in a sheet answers: the place of a function, or why there is none; and how many were compared. specs/Find.antt has its numbers.
+pub enum Search {
+    At { place: usize, compared: usize },
+    Missing { refusal: Refusal, compared: usize },
+}
+
 // The words that a declaration begins with.
 pub enum Keyword {
     Function,
