@@ -27,7 +27,7 @@ ghost use Rattle.record.specs.Texts.{locatedFrom, isFree, isMarkAt, meas
 ghost use Rattle.record.specs.Parts.{Head, Front, Alone};
 
 // The length of the record that a part begins with; below 6 where there is none.
-fn record_length(b: &[u8]) -> usize
+pub fn record_length(b: &[u8]) -> usize
     ensures { λ r. ⌜ Head (now (b .entry)) r ⌝ }
 {
     if b.len() < 6 {
