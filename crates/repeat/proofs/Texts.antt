@@ -2,7 +2,7 @@
 -- Assumes nothing.
 use mathlib.Core.Path.{_≡_, refl, sym, _∙_, ap}
 use mathlib.Core.List.{List, _++_}
-use mathlib.Core.Option.{some}
+use mathlib.Core.Option.{Option, none, some}
 use Prim.Native.Nat.{ℕ, _+_, _*_, _-_, _^_, _≤_, _<_}
 use native.Mathlib.Omega.{arith}
 use native.Mathlib.Nat.{zero-add}
@@ -11,9 +11,10 @@ use lib.Seq.{drop-drop, take-at}
 use borrow.Author.Tests.{le-ltb}
 use Rattle.kinds.specs.Kind.{Kind, kindText, canonical}
 use Rattle.model.specs.Layout.{leValue, Bytes}
-use Rattle.model.specs.Tree.{kindsOf}
+use Rattle.model.specs.Tree.{Declaration, kindsOf}
 use Rattle.model.specs.Reading.{deepest}
-use Rattle.model.specs.Record.{encodeFields, onOption}
+use Rattle.model.specs.Record.{encode, encodeFields, onOption}
+use Rattle.model.specs.Line.{canonicalText}
 use Rattle.model.specs.Answer.{writes}
 use Rattle.model.specs.Calls.{canonicalOutput, orWrongSort}
 use Rattle.model.proofs.Scans.{part-rest}
@@ -24,10 +25,10 @@ use Rattle.record.specs.Texts.{fieldsFrom, tupleTextFrom}
 use Rattle.record.proofs.Tops.{fields-decode}
 use Rattle.abi.specs.Lines.{LineRoom, lineFrom, LineWrote}
 use Rattle.abi.proofs.Nested.{brackets-long}
-use Rattle.repeat.specs.Pairs.{nameAt}
+use Rattle.repeat.specs.Pairs.{nameAt, RecordOf}
 use Rattle.repeat.specs.Prints.{print, printText, printIn, OneRecord, TextRoom, TextFront, TextWrote, PrintIs}
 use Rattle.repeat.proofs.Places.{body-at, name-low}
-use Rattle.repeat.proofs.Whole.{codeIn, code-is, Named, named-at, constructor-none, name-shape, name-fits, name-long, name-inside, list-inside, list-is, record-long}
+use Rattle.repeat.proofs.Whole.{codeIn, code-is, Named, named-at, constructor-none, name-shape, name-fits, name-long, name-inside, list-long, list-inside, list-is, record-long}
 use Rattle.repeat.proofs.Printing.{output-is}
 
 module _ (t : List ℕ) (at : ℕ) (b : List ℕ) (p : TextRoom t at b) where
@@ -151,3 +152,22 @@ module _ (t b : List ℕ) (k : ℕ) (e : k ≡ leValue (take 2 (drop 4 t))) wher
             let f = w (asked p) in
             q ∙ ap (print 0) (f .front) ∙ sym (ap (printText (length b)) (f .is) ∙ rw (printText, le-ltb (length b) (length (f .text)) (f .inside)));
       }
+
+-- where there is room for twice the record, its whole text has a fingerprint
+module _ (t : List ℕ) (d : Declaration) (h : RecordOf t d) where
+  pub text-short : (u : List ℕ) → canonicalText d ≡ some u → length u < 2 * length t
+  text-short u e =
+      let bytes : Bytes t = rw (h .bytes) (encode-bytes d (h .well)) in
+      line-short t u bytes (output-is t (record { declaration = d; one = h }) ∙ ap orWrongSort e)
+
+  pub print-is : (n : ℕ) → 2 * length t ≤ n → (u : List ℕ) → canonicalText d ≡ some u → printIn n d ≡ print 0 u
+  unfolding printIn
+  print-is n l u e = rw (e, printText, le-ltb n (length u) (omega (arith, text-short u e))) refl
+
+  pub print-room : (n m : ℕ) → 2 * length t ≤ n → 2 * length t ≤ m → printIn n d ≡ printIn m d
+  unfolding printIn
+  print-room n m k l = go (canonicalText d) refl
+    where
+      go : (o : Option (List ℕ)) → canonicalText d ≡ o → printIn n d ≡ printIn m d
+      go none e = ap (printText n) e ∙ sym (ap (printText m) e)
+      go (some u) e = print-is n k u e ∙ sym (print-is m l u e)

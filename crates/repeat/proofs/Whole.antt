@@ -125,7 +125,7 @@ module _ (a b : List ℕ) where
             (λ z. (names p .0 o, q .0 z), λ z. q .1 (z .1))
 
 -- the number of a declaration's record, and its body
-pub codeIn : Declaration → ℕ
+unfoldable pub codeIn : Declaration → ℕ
 codeIn (Declaration.function m nm ins outs) = 0x20
 codeIn (Declaration.constructor m ins) = 0x21
 codeIn (Declaration.event x nm ins) = 0x22
@@ -196,6 +196,20 @@ module _ (t : List ℕ) (d : Declaration) (h : RecordOf t d) where
 
 pub record-long : (t : List ℕ) (d : Declaration) → RecordOf t d → 8 ≤ length t
 record-long t d h = omega (arith, long t d h, body-long d)
+
+-- a declaration's record with anything behind it
+module _ (d : Declaration) (g : wellFormed d ≡ true) (r t : List ℕ) (e : t ≡ encode 4 d ++ r) where
+  shape-before : t ≡ recordOf 4 (codeIn d) (bodyIn d) ++ r
+  shape-before = e ∙ ap (λ u. u ++ r) (coded-so d)
+
+  fits-before : 6 + length (bodyIn d) < 256 ^ 4
+  fits-before = body-fits (encode 4 d) d (record { bytes = refl; well = g })
+
+  pub length-before : leValue (take 4 (drop 0 t)) ≡ length (encode 4 d)
+  length-before = length-at (codeIn d) (bodyIn d) r t shape-before fits-before ∙ sym (long (encode 4 d) d (record { bytes = refl; well = g }))
+
+  pub kind-before : leValue (take 2 (drop 4 t)) ≡ codeIn d
+  kind-before = kind-at (codeIn d) (bodyIn d) r t shape-before fits-before (code-small d)
 
 -- the word that a declaration begins with, by the number of its record, and the number by the word
 wordBy : ℕ → List ℕ

@@ -138,7 +138,7 @@ fn mixed(h: u64, v: u64) -> u64
 }
 
 // A fingerprint of a text: equal texts have equal ones. Four bytes make a step, since each step waits for the one before.
-fn print(t: &[u8]) -> u32
+pub fn print(t: &[u8]) -> u32
     ensures { λ r. ⌜ r ≡ print 0 (now (t .entry)) ⌝ }
 {
     let mut h: u64 = 0;

@@ -2,13 +2,13 @@
 -- Assumes nothing.
 use mathlib.Core.Path.{_≡_, refl, sym, _∙_, ap}
 use mathlib.Core.Bool.{Bool, true, false, _||_, false≢true}
-use mathlib.Core.List.{List, _∷_}
-use Prim.Native.Nat.{ℕ, zero, suc, _+_, _-_, _≤_, _<_}
+use mathlib.Core.List.{List}
+use Prim.Native.Nat.{ℕ, suc, _+_, _-_, _≤_, _<_}
 use native.Mathlib.Omega.{arith}
 use native.Mathlib.Numerals.{add-one}
 use lib.Dec.{eqb}
 use lib.ListN.{length, take, drop, getD, drop-of-length-le}
-use lib.Seq.{length-take-le, take-at, getD-take}
+use lib.Seq.{take-at}
 use borrow.Author.Tests.{le-ltb, leb-true, ne-eqb}
 use Rattle.kinds.proofs.Logic.{right}
 use Rattle.model.specs.declared.Refusal.{Refusal}
@@ -24,10 +24,11 @@ use Rattle.model.specs.Calls.{readOutput}
 use Rattle.model.specs.Sheet.{repeats, has}
 use Rattle.model.proofs.Sound.{read-well-formed}
 use Rattle.repeat.specs.Pairs.{RecordOf, Two, Repeats}
-use Rattle.repeat.specs.Prints.{printIn, printsOf, any}
+use Rattle.repeat.specs.Prints.{printsOf, any}
 use Rattle.layout.proofs.Answers.{accepted-is, after-written}
 use Rattle.repeat.proofs.Printing.{repeats-print, has-print}
-use Rattle.sheet.specs.Lines.{LineEnds, ReadsAt, AskedAt, LineRepeats, printed, AskedPrint, PrintRepeats, AllRead, no-place, one-place, AskedBefore, HasBefore, nextRepeat, RepeatNext}
+use Rattle.repeat.proofs.Noting.{NotedAt, noted-length, noted-at, has-from}
+use Rattle.sheet.specs.Lines.{LineEnds, ReadsAt, AskedAt, LineRepeats, printed, AskedPrint, PrintRepeats, AskedBefore, HasBefore, nextRepeat, RepeatNext}
 use Rattle.sheet.proofs.Walking.{length-is, read-is}
 
 pub encode-short : (d : Declaration) → wellFormed d ≡ true → length (encode 4 d) ≤ 40960
@@ -91,53 +92,26 @@ print-unlike s x at h t n p = go (repeats (p .asked .declaration) (p .asked .dec
     go true q = absurd (n (p .here ∙ repeats-print printed (p .asked .declaration) (p .asked .declaration₁) q ∙ sym (p .there)))
     go false q = refl
 
--- what is noted at a place
-record NotedAt (s : List ℕ) (x at i : ℕ) (ds : List Declaration) : Type 0 where
-  declaration : Declaration
-  split : drop i ds ≡ declaration ∷ drop (suc i) ds
-  reads : ReadsAt s at declaration
-  print : x ≡ printIn printed declaration
-
-noted-in : {s ats : List ℕ} {ds : List Declaration} → AllRead s ats ds → (i : ℕ) → i < length ats → NotedAt s (getD (printsOf printed ds) i 0) (getD ats i 0) i ds
-unfolding printsOf
-noted-in no-place i h = absurd (omega arith)
-noted-in (one-place r more) zero h = record { declaration = _; split = refl; reads = r; print = refl }
-noted-in (one-place r more) (suc i) h =
-    let z = noted-in more i (omega arith) in
-    record { declaration = z .declaration; split = z .split; reads = z .reads; print = z .print }
-
-pub all-length : {s ats : List ℕ} {ds : List Declaration} → AllRead s ats ds → length ats ≡ length ds
-all-length no-place = refl
-all-length (one-place r more) = ap suc (all-length more)
-
 module _ (s prints places : List ℕ) (n h : ℕ) (t : List ℕ) where
-  pub noted-length : (p : AskedBefore s prints places n h t) → length (p .before) ≡ n
-  noted-length p = sym (all-length (p .noted .read)) ∙ length-take-le n places (p .noted .low₁)
-
   -- what is left from i on decides
   abbrev pub HasRest : ℕ → Type 0
   HasRest i = (p : AskedBefore s prints places n h t) → has (p .before) (p .declaration) ≡ has (drop i (p .before)) (p .declaration)
 
   module _ (i : ℕ) (l : i < n) where
-    at-it : (p : AskedBefore s prints places n h t) → NotedAt s (getD prints i 0) (getD places i 0) i (p .before)
-    at-it p =
-        let k : i < length (take n places) = rw (length-take-le n places (p .noted .low₁)) l in
-        let z = noted-in (p .noted .read) i k in
-        let x : getD (printsOf printed (p .before)) i 0 ≡ getD prints i 0 = ap (λ y. getD y i 0) (sym (p .noted .same)) ∙ getD-take n prints i 0 l in
-        let y : getD (take n places) i 0 ≡ getD places i 0 = getD-take n places i 0 l in
-        rw (← x, ← y) z
+    at-it : (p : AskedBefore s prints places n h t) → NotedAt (ReadsAt s) printed (getD prints i 0) (getD places i 0) i (p .before)
+    at-it p = noted-at (ReadsAt s) printed prints places n (p .before) (p .noted) i l
 
     pub earlier-asks : AskedBefore s prints places n h t → AskedPrint s (getD prints i 0) (getD places i 0) h t
     earlier-asks p = let z = at-it p in record {
-      asked = record { declaration = z .declaration; reads = z .reads; declaration₁ = p .declaration; other = p .one };
+      asked = record { declaration = z .declaration; reads = z .there; declaration₁ = p .declaration; other = p .one };
       here = z .print;
       there = p .print;
     }
 
     module _ (r : Bool) (told : PrintRepeats s (getD prints i 0) (getD places i 0) h t r) (rest : HasRest i) where
       has-here : (p : AskedBefore s prints places n h t) → has (p .before) (p .declaration) ≡ (r || has (drop (suc i) (p .before)) (p .declaration))
-      unfolding has at-it earlier-asks
-      has-here p = rest p ∙ ap (λ x. has x (p .declaration)) (at-it p .split) ∙ ap (λ b. b || has (drop (suc i) (p .before)) (p .declaration)) (sym (told (earlier-asks p)))
+      unfolding at-it earlier-asks
+      has-here p = rest p ∙ has-from (at-it p) (p .declaration) ∙ ap (λ b. b || has (drop (suc i) (p .before)) (p .declaration)) (sym (told (earlier-asks p)))
 
       pub earlier-hit : r ≡ true → HasBefore s prints places n h t true
       earlier-hit e p = sym (has-here p ∙ ap (λ b. b || has (drop (suc i) (p .before)) (p .declaration)) e)
@@ -147,7 +121,7 @@ module _ (s prints places : List ℕ) (n h : ℕ) (t : List ℕ) where
 
   pub earlier-end : (i : ℕ) → n ≤ i → HasRest i → HasBefore s prints places n h t false
   unfolding has
-  earlier-end i l rest p = let k : length (p .before) ≤ i = omega (arith, noted-length p) in
+  earlier-end i l rest p = let k : length (p .before) ≤ i = omega (arith, noted-length (ReadsAt s) printed prints places n (p .before) (p .noted)) in
       sym (rest p ∙ ap (λ x. has x (p .declaration)) (drop-of-length-le (p .before) k))
 
   -- the line of the first repeat
