@@ -17,6 +17,7 @@ use Rattle.model.specs.Line.{nameOf, fieldName}
 use Rattle.model.specs.Record.{decode, decodeLone}
 use Rattle.model.specs.Calls.{orWrongSort, nameBy, nameOutput}
 use Rattle.model.specs.Sheet.{OnLine}
+use Rattle.model.specs.Find.{told as told-in}
 use Rattle.model.proofs.Numbers.{no-refusal-0}
 use Rattle.geusomin.specs.Told.{code, worth}
 
@@ -42,6 +43,16 @@ module _ (a : Answer) where
   pub told-lined : (o : OnLine) (b b₁ : List ℕ) (r v n : ℕ) → said a ≡ outcome (length b) (o .output) → b₁ ≡ after b (o .output) → n ≡ o .line → r ≡ code (said a) → v ≡ worth (said a)
       → (r ≡ code (outcome (length b) (o .output))) × ((v ≡ worth (outcome (length b) (o .output))) × ((b₁ ≡ after b (o .output)) × (n ≡ o .line)))
   told-lined o b b₁ r v n e g l h k = let t = told (o .output) b b₁ r v e g h k in (t .0, (t .1 .0, (t .1 .1, l)))
+
+-- a search in three numbers
+module _ (s o : Search) (e : s ≡ o) where
+  pub told-found : (p n : ℕ) → s ≡ At p n → (0 ≡ told-in o .refusal) × ((p ≡ told-in o .place) × (n ≡ told-in o .compared))
+  unfolding told-in
+  told-found p n f = let g : o ≡ At p n = sym e ∙ f in (rw g, (rw g, rw g))
+
+  pub told-missing : (w : Refusal) (n r : ℕ) → s ≡ Missing w n → r ≡ number w → (r ≡ told-in o .refusal) × ((0 ≡ told-in o .place) × (n ≡ told-in o .compared))
+  unfolding told-in
+  told-missing w n r f h = let g : o ≡ Missing w n = sym e ∙ f in (rw g h, (rw g, rw g))
 
 -- the name call: its output by the number that it tells
 

@@ -2,6 +2,7 @@
 use model::Answer;
 use model::Call;
 use model::Refusal;
+use model::Search;
 ghost use mathlib.Core.Path.{_≡_};
 ghost use lib.ListN.{length};
 ghost use Rattle.model.specs.Answer.{writes, said, outcome, after};
@@ -105,6 +106,38 @@ pub extern "C" fn geusomin_parse_sheet(
     ensures lined { λ _. ⌜ now (line .exit) ≡ sheetOutput (now (text .entry)) .line ⌝ }
 {
     tell(sheet::parse_sheet(text, record, line), value)
+}
+
+#[no_mangle]
+pub extern "C" fn geusomin_find(
+    sheet: &[u8],
+    text: &[u8],
+    place: &mut usize,
+    compared: &mut usize,
+) -> u32
+    ensures tells { λ r. ⌜ r ≡ told (findOutput (now (sheet .entry)) (now (text .entry))) .refusal ⌝ }
+    ensures placed { λ _. ⌜ now (place .exit) ≡ told (findOutput (now (sheet .entry)) (now (text .entry))) .place ⌝ }
+    ensures counted { λ _. ⌜ now (compared .exit) ≡ told (findOutput (now (sheet .entry)) (now (text .entry))) .compared ⌝ }
+{
+    let r = index::find(sheet, text);
+    match r {
+        Search::At {
+            place: at,
+            compared: n,
+        } => {
+            *place = at;
+            *compared = n;
+            0
+        }
+        Search::Missing {
+            refusal,
+            compared: n,
+        } => {
+            *place = 0;
+            *compared = n;
+            refusal::number(refusal)
+        }
+    }
 }
 
 #[no_mangle]
