@@ -4,7 +4,8 @@
  * A call reads the bytes that its first pointer and length lend, and writes into the `room` bytes that its second pointer
  * lends. It returns 0 on acceptance, and *value is then the length of what it wrote: that many first bytes of the buffer
  * are new, and the later ones are as they were. Otherwise it returns the number of a refusal, *value is its position, and
- * the whole buffer is as it was. geusomin_check_data reads what both its pointers lend and writes into neither.
+ * the whole buffer is as it was. geusomin_check_data reads what both its pointers lend and writes into neither, and so does
+ * geusomin_find, whose comment tells what it sets.
  *
  * Positions are byte offsets from 0 in the text that was lent, or, of a sheet, in one of its lines. Nothing is terminated by
  * a zero, neither what is lent nor what is written: texts, records, lines, names and messages are bytes with a length, and a
@@ -16,8 +17,8 @@
  *     sets, nor two such numbers,
  *   - no pointer is null, not even one whose length is 0.
  * Beyond that, any bytes and any lengths have an answer. No call allocates or keeps anything, so threads may call at the
- * same time, each with buffers of its own. As built on x86-64, geusomin_parse_sheet and geusomin_check_data take less than
- * 160 KB of stack in all, and every other call less than 64 KB.
+ * same time, each with buffers of its own. As built on x86-64, geusomin_parse_sheet, geusomin_check_data and geusomin_find
+ * take less than 160 KB of stack in all, and every other call less than 64 KB.
  */
 #ifndef GEUSOMIN_H
 #define GEUSOMIN_H
@@ -29,7 +30,7 @@
 extern "C" {
 #endif
 
-#define GEUSOMIN_VERSION "0.8.0"
+#define GEUSOMIN_VERSION "0.9.0"
 
 /* A text of more than GEUSOMIN_TEXT_MAX bytes is refused with 8. A record of more than GEUSOMIN_RECORD_MAX bytes is not
    well formed, and a reading call writes at most 10 bytes for each byte of its text, so a buffer of GEUSOMIN_RECORD_MAX
@@ -51,6 +52,10 @@ extern "C" {
 #define GEUSOMIN_SHEET_TEXT_MAX 65536
 #define GEUSOMIN_SHEET_MAX 655366
 #define GEUSOMIN_DECLARATIONS_MAX 512
+
+/* A well-formed sheet record of any origin has at most so many bytes: GEUSOMIN_DECLARATIONS_MAX declarations of
+   GEUSOMIN_RECORD_MAX bytes, and 6 more. */
+#define GEUSOMIN_LENT_SHEET_MAX 20971526
 
 /* What geusomin_heads writes is less than a quarter as long as the record, so a buffer of GEUSOMIN_HEADS_MAX bytes is room
    enough for it. Heads, and data, of more than GEUSOMIN_DATA_MAX bytes are refused with 24. */
@@ -87,7 +92,9 @@ enum geusomin_refusal {
     GEUSOMIN_REPEATED = 23,            /* keyword and canonical text of an earlier line, or a second constructor */
     /* of call data, at position 0 */
     GEUSOMIN_CALL_TOO_LONG = 24,       /* total head, or for geusomin_check_data the data, over 65,536 bytes */
-    GEUSOMIN_NOT_AN_ENCODING = 25      /* the data are no encoding of values of the inputs' kinds */
+    GEUSOMIN_NOT_AN_ENCODING = 25,     /* the data are no encoding of values of the inputs' kinds */
+    /* of the search in a sheet */
+    GEUSOMIN_NO_SUCH_FUNCTION = 26     /* none has that text */
 };
 
 /* What a refusal's number says, in the words of docs/01-scope.md and docs/02-change-requests.md; NULL for a number that is
@@ -137,6 +144,8 @@ static inline const char *geusomin_refusal_text(uint32_t number)
         return "total head, or in the second call the data, over 65,536 bytes";
     case GEUSOMIN_NOT_AN_ENCODING:
         return "the data are no such encoding";
+    case GEUSOMIN_NO_SUCH_FUNCTION:
+        return "none has that text";
     default:
         return NULL;
     }
@@ -209,6 +218,20 @@ uint32_t geusomin_parse_kind(const uint8_t *text, size_t text_len, uint8_t *reco
    Refusals: 1 to 10, 20 to 23. */
 uint32_t geusomin_parse_sheet(const uint8_t *text, size_t text_len, uint8_t *record, size_t room, size_t *value,
                               size_t *line);
+
+/*
+ * The calls on sheets take sheet records of any origin, which are checked first: the bytes are one record of record kind
+ * GEUSOMIN_SHEET, with at most GEUSOMIN_DECLARATIONS_MAX well-formed declarations of at most GEUSOMIN_RECORD_MAX bytes each,
+ * of which none has the keyword and the canonical text of an earlier one, or is a second constructor.
+ */
+
+/* Finds the function of a sheet that has a canonical text. Any bytes of any length may be sought; they are compared as they
+   are. It returns 0 where there is such a function: *place tells which one it is, counting the sheet's functions only, from
+   1, and *compared is the same number, since so many were compared. No other function of the sheet has that text. Otherwise
+   it returns a refusal, and *place is 0: with 26 *compared is the number of the sheet's functions, with 15 it is 0.
+   Refusals: 15, 26. */
+uint32_t geusomin_find(const uint8_t *sheet, size_t sheet_len, const uint8_t *text, size_t text_len, size_t *place,
+                       size_t *compared);
 
 /*
  * The calls on records take bytes of any origin, which are checked first, and write a text.

@@ -51,8 +51,8 @@ static const struct {
 
 #define CALLS (sizeof calls / sizeof *calls)
 
-/* And those of another form: geusomin_parse_sheet tells a line, geusomin_check_data is lent data in place of room. */
-static const char sheet_call[] = "sheet", data_call[] = "check_data";
+/* And those of another form: geusomin_parse_sheet tells a line, geusomin_check_data and geusomin_find are lent bytes twice. */
+static const char sheet_call[] = "sheet", data_call[] = "check_data", find_call[] = "find";
 
 struct bytes {
     const uint8_t *at;
@@ -621,6 +621,29 @@ static void replay_data(struct bytes record_hex, struct bytes data_hex)
     free((void *)data.at);
 }
 
+/* Lent numbers hold something else beforehand. */
+static void replay_find(struct bytes sheet_hex, struct bytes text_hex)
+{
+    struct bytes sheet, text;
+    size_t place = SIZE_MAX, compared = SIZE_MAX;
+    uint32_t refusal;
+
+    see_hex(sheet_hex);
+    see_hex(text_hex);
+    sheet = decoded(sheet_hex);
+    text = decoded(text_hex);
+    refusal = geusomin_find(sheet.at, sheet.length, text.at, text.length, &place, &compared);
+    if (refusal != 0 && place != 0)
+        stop(FAILED, "the library", "a refused search has a place");
+    print_text(refusal == 0 ? "ok " : "no ");
+    print_number(refusal == 0 ? place : refusal);
+    print_text(" ");
+    print_number(compared);
+    print_text("\n");
+    free((void *)sheet.at);
+    free((void *)text.at);
+}
+
 static void replay_call(struct bytes name, struct bytes hex, struct bytes room_field)
 {
     struct bytes in;
@@ -662,6 +685,8 @@ static void replay_line(struct bytes line)
 
     if (is(name, data_call))
         replay_data(hex, line);
+    else if (is(name, find_call))
+        replay_find(hex, line);
     else
         replay_call(name, hex, line);
 }
@@ -799,7 +824,8 @@ static const char about[] =
     "               how many it has, its record's length; or `no NUMBER LINE POSITION`, and behind a tab the line's message\n"
     "  replay       read lines `CALL HEX ROOM` from standard input and print `ok HEX` or `no NUMBER POSITION` for each, of\n"
     "               a sheet `no NUMBER LINE POSITION`. HEX is in lower case, `-` for no bytes; ROOM is how many bytes the\n"
-    "               call is lent, `-` for the most, 131072, for a sheet 2097152. check_data has HEX for ROOM, the data\n"
+    "               call is lent, `-` for the most, 131072, for a sheet 2097152. check_data has HEX for ROOM, the data.\n"
+    "               A line `find SHEET TEXT`, both as HEX, is answered by `ok PLACE COMPARED` or `no NUMBER COMPARED`\n"
     "  bench FILE   time the general, canonical, signature and full calls over a file of declarations\n"
     "\n"
     "A first argument `sheet`, `replay` or `bench` is the command; ./sheet names the file.\n"
@@ -826,8 +852,10 @@ static enum status help(void)
     print_text(sheet_call);
     print_text("\n  ");
     print_text(data_call);
+    print_text("\n  ");
+    print_text(find_call);
     print_text("\n\nRefusals:\n");
-    for (uint32_t number = 1; number <= GEUSOMIN_NOT_AN_ENCODING; number++) {
+    for (uint32_t number = 1; number <= GEUSOMIN_NO_SUCH_FUNCTION; number++) {
         if (geusomin_refusal_text(number) != NULL) {
             print_text(number < 10 ? "   " : "  ");
             print_number(number);

@@ -11,7 +11,7 @@ VERSION = re.compile(r'^#define GEUSOMIN_VERSION "(\d+\.\d+\.\d+)"$', re.M)
 STRICT = ["-Wall", "-Wextra", "-Wpedantic", "-Werror"]
 LANGUAGES = {"C99": ["gcc", "-std=c99", "-x", "c"], "C11": ["gcc", "-std=c11", "-x", "c"], "C++": ["g++", "-x", "c++"]}
 NUMBERS = (*range(41), 2 ** 32 - 1)  # those that header.c asks for
-ORDERS = 8  # so many orders of document 02 are in
+ORDERS = range(1, 10)  # those of document 02 that are in
 
 
 CLAUSE = re.compile(r"(\d+)(?:, in the second call only,)? (.*?), (?:first|at|found|after|before|carrying|in place) ")
@@ -30,7 +30,7 @@ def document_words(top):
     words = {int(n): text for n, text in re.findall(r"(?:^|\. |: )(\d+) (.*?)(?=, position|;|\.(?: |$))", causes, re.M)}
     shared, starts, *ends = re.search(r"(what remains [^:]*): 11 if (it starts) (with [^,]*), 12 if (with [^,]*), 13 (\w+)\.", causes).groups()
     words.update({11 + i: f"{shared}: {starts} {end}" for i, end in enumerate(ends)})
-    orders = orders[:orders.index(f"**order {ORDERS + 1}.")]
+    orders = "\n".join(re.search(rf"^\*\*order {n}\..*$", orders, re.M)[0] for n in ORDERS)
     words.update(order_words(orders))
     gone = {int(n) for n in re.findall(r"Number (\d+) is no longer given", orders)}
     return {n: text for n, text in words.items() if n not in gone}
