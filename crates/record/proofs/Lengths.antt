@@ -33,22 +33,24 @@ one-digit v h = rw (decimal-one v h)
 more-digits : (v : ℕ) → 10 ≤ v → length (decimal v) ≡ length (decimal (v / 10)) + 1
 more-digits v h = rw (decimal-more v h, length-append)
 
--- the loop that counts them: l is the count of them all
+four-digits : (v : ℕ) → 10000 ≤ v → length (decimal v) ≡ length (decimal (v / 10000)) + 4
+four-digits v h =
+    let d : v / 10 / 10 / 10 / 10 ≡ v / 10000 = omega arith in
+    rw (← d) (omega (arith, more-digits v (omega arith), more-digits (v / 10) (omega arith), more-digits (v / 10 / 10) (omega arith), more-digits (v / 10 / 10 / 10) (omega arith)))
+
+-- the loop that counts them
 pub record Counted (v rest n : ℕ) : Type 0 where
-  pub count : n + length (decimal rest) ≡ length (decimal v) + 1
+  pub count : n + length (decimal rest) ≡ length (decimal v)
   pub small : length (decimal v) ≤ 20
 
-pub counted-start : (v : ℕ) → v < 18446744073709551616 → Counted v v 1
+pub counted-start : (v : ℕ) → v < 18446744073709551616 → Counted v v 0
 counted-start v h = record { count = omega arith; small = decimal-short 20 v (omega arith) (omega arith) }
 
-pub counted-next : (v rest n : ℕ) → Counted v rest n → 10 ≤ rest → Counted v (rest / 10) (n + 1)
-counted-next v rest n i h = record { count = omega (arith, more-digits rest h, i .count); small = i .small }
+pub counted-next : (v rest n : ℕ) → Counted v rest n → 10000 ≤ rest → Counted v (rest / 10000) (n + 4)
+counted-next v rest n i h = record { count = omega (arith, four-digits rest h, i .count); small = i .small }
 
-pub counted-end : (v rest n : ℕ) → Counted v rest n → rest < 10 → n ≡ length (decimal v)
-counted-end v rest n i h = omega (arith, one-digit rest h, i .count)
-
-pub counted-small : (v rest n : ℕ) → Counted v rest n → rest < 10 → n ≤ 20
-counted-small v rest n i h = omega (arith, one-digit rest h, i .count, i .small)
+pub counted-end : (v rest n m : ℕ) → Counted v rest n → m ≡ length (decimal rest) → (n + m ≡ length (decimal v)) × (n + m ≤ 20)
+counted-end v rest n m i e = (omega (arith, i .count), omega (arith, i .count, i .small))
 
 pub small-one : (v : ℕ) → v < 10 → 1 ≡ length (decimal v)
 small-one v h = sym (one-digit v h)
@@ -58,6 +60,9 @@ small-two v h k = omega (arith, more-digits v h, one-digit (v / 10) (omega arith
 
 pub small-three : (v : ℕ) → 100 ≤ v → v < 1000 → 3 ≡ length (decimal v)
 small-three v h k = omega (arith, more-digits v (omega arith), more-digits (v / 10) (omega arith), one-digit (v / 10 / 10) (omega arith))
+
+pub small-four : (v : ℕ) → 1000 ≤ v → v < 10000 → 4 ≡ length (decimal v)
+small-four v h k = omega (arith, more-digits v (omega arith), small-three (v / 10) (omega arith) (omega arith))
 
 -- a number behind a word
 module _ (t : ℕ → Bool) (word : ℕ) (body : List ℕ) where
@@ -241,4 +246,4 @@ module _ (k : ℕ) (body : List ℕ) where
   unfolding suffixFrom decodeSuffix measured
   suffix-other g h = ap (λ T. measured (onOption suffixText (T body))) (sym (select-other k suffixCases (λ _. none) (g, (h, tt))))
 
-pub ruleset lengths = (counted-start, counted-next, counted-end, counted-small, small-one, small-two, small-three, numbered-not, width-no, width-is, byte-length-no, byte-length-is, bare-is, bare-not, elementary-int, elementary-uint, elementary-fixed, worded-address, worded-bool, worded-function, worded-bytes, worded-string, suffix-sized, suffix-odd, suffix-open, suffix-other)
+pub ruleset lengths = (counted-start, counted-next, small-one, small-two, small-three, small-four, numbered-not, width-no, width-is, byte-length-no, byte-length-is, bare-is, bare-not, elementary-int, elementary-uint, elementary-fixed, worded-address, worded-bool, worded-function, worded-bytes, worded-string, suffix-sized, suffix-odd, suffix-open, suffix-other)

@@ -40,17 +40,34 @@ pub fn record_length(b: &[u8]) -> usize
     n
 }
 
-// How many digits a number has.
+// How many digits a number of at most four has.
+fn short_length(v: u64) -> usize
+    requires { ⌜ v < 10000 ⌝ }
+    ensures { λ r. ⌜ (r ≡ length (decimal v)) × (r ≤ 4) ⌝ }
+{
+    if v < 10 {
+        return 1;
+    }
+    if v < 100 {
+        return 2;
+    }
+    if v < 1000 {
+        return 3;
+    }
+    4
+}
+
+// How many digits a number has. Four are taken at once, since each division waits for the one before.
 pub fn decimal_length(v: u64) -> usize
     ensures { λ r. ⌜ (r ≡ length (decimal v)) × (r ≤ 20) ⌝ }
 {
-    let mut n = 1;
+    let mut n = 0;
     let mut rest = v;
-    while 10 <= rest {
-        rest = rest / 10;
-        n += 1;
+    while 10000 <= rest {
+        rest = rest / 10000;
+        n += 4;
     }
-    n
+    n + short_length(rest)
 }
 
 // The same for a number of at most three digits.
