@@ -24,6 +24,7 @@ pub enum Refusal {
     CallTooLong,
     NotAnEncoding,
     NoSuchFunction,
+    SheetChanged,
 }
 
 // What a call answers: the length of what it wrote, or why it refuses and where.

@@ -29,5 +29,6 @@ pub fn number(refusal: Refusal) -> u32
         Refusal::CallTooLong => 24,
         Refusal::NotAnEncoding => 25,
         Refusal::NoSuchFunction => 26,
+        Refusal::SheetChanged => 27,
     }
 }
