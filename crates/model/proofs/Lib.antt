@@ -32,3 +32,4 @@ pub mod SheetExamples
 pub mod Distinct
 pub mod Finding
 pub mod FindExamples
+pub mod Appending
