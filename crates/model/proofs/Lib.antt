@@ -33,3 +33,4 @@ pub mod Distinct
 pub mod Finding
 pub mod FindExamples
 pub mod Appending
+pub mod Joining
