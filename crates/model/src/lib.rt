@@ -25,6 +25,7 @@ pub enum Refusal {
     NotAnEncoding,
     NoSuchFunction,
     SheetChanged,
+    NotTight,
 }
 
 // What a call answers: the length of what it wrote, or why it refuses and where.

@@ -30,5 +30,6 @@ pub fn number(refusal: Refusal) -> u32
         Refusal::NotAnEncoding => 25,
         Refusal::NoSuchFunction => 26,
         Refusal::SheetChanged => 27,
+        Refusal::NotTight => 28,
     }
 }
