@@ -176,6 +176,32 @@ module _ (w : ℕ) {A L : Type 0} (nil : L) (cons : A → L → L) (D : ℕ → 
   pub each-spells : Spells w (each w nil cons D) goods encs
   each-spells = record { from = λ b l h e. each-from (length b) b l h e; to = λ l g f. ls .induction Back back-nil back-cons l (length (encs l)) (omega arith) g f }
 
+-- the same by what the records are mapped to
+module _ (w : ℕ) {A L : Type 0} (nil : L) (cons : A → L → L) (D : ℕ → List ℕ → Option A) (text : A → List ℕ) (texts : L → List ℕ) (join : List ℕ → List ℕ → List ℕ)
+    (h : (a : A) (l : L) → texts (cons a l) ≡ join (text a) (texts l)) where
+  pub mapped-end : (k : ℕ) → onOption texts (eachIn w nil cons D k []) ≡ some (texts nil)
+  unfolding eachIn
+  mapped-end zero = refl
+  mapped-end (suc k) = refl
+
+  pub mapped-step : (k : ℕ) (b : List ℕ) → 0 < length b
+      → onOption texts (eachIn w nil cons D (suc k) b) ≡ onPiece (pieceOf w b) (λ j body r. given (onOption text (D j body)) (λ u. onOption (join u) (onOption texts (eachIn w nil cons D k r))))
+  unfolding eachIn
+  mapped-step k [] l = absurd (omega arith)
+  mapped-step k (c ∷ t) l = go (pieceOf w (c ∷ t))
+    where
+      more : (a : A) (o : Option L) → onOption texts (onOption (cons a) o) ≡ onOption (join (text a)) (onOption texts o)
+      more a none = refl
+      more a (some m) = ap some (h a m)
+
+      taken : (o : Option A) (r : List ℕ) → onOption texts (given o (λ a. onOption (cons a) (eachIn w nil cons D k r))) ≡ given (onOption text o) (λ u. onOption (join u) (onOption texts (eachIn w nil cons D k r)))
+      taken none r = refl
+      taken (some a) r = more a (eachIn w nil cons D k r)
+
+      go : (p : Piece) → onOption texts (eachBy w cons D (λ r. eachIn w nil cons D k r) p) ≡ onPiece p (λ j body r. given (onOption text (D j body)) (λ u. onOption (join u) (onOption texts (eachIn w nil cons D k r))))
+      go noPiece = refl
+      go (piece j body r) = taken (D j body) r
+
 -- kinds told apart by their number
 module _ (w : ℕ) {A : Type 0} (good : A → Bool) (enc : A → List ℕ) where
   abbrev pub Sounds : List (Case (List ℕ → Option A)) → Type 0

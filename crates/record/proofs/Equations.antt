@@ -16,10 +16,11 @@ use Rattle.model.specs.declared.Sort.{Sort}
 use Rattle.model.specs.declared.Sort.the-variants.{Plain}
 use Rattle.model.specs.Tree.{Base, Field, field, Fields, noField, moreFields, arrays, baseKind, kindOf, kindsOf}
 use Rattle.model.specs.Layout.{leValue, Piece, piece, noPiece, pieceOf}
-use Rattle.model.specs.Record.{isFieldName, isMark, given, onOption, when, onPiece, ofKind, fronted, decodeElementary, decodeSuffix, baseFrom, eachBy, eachIn, decodeSuffixes, fieldFrom, tupleFrom}
+use Rattle.model.specs.Record.{isFieldName, isMark, given, onOption, when, onPiece, ofKind, fronted, decodeElementary, decodeSuffix, baseFrom, eachIn, decodeSuffixes, fieldFrom, tupleFrom}
 use Rattle.model.specs.Line.{fieldText}
 use Rattle.model.specs.Written.{suffixesText}
 use Rattle.model.specs.Reading.{marksBy, marks}
+use Rattle.model.proofs.Decoding.{mapped-end, mapped-step}
 use Rattle.record.proofs.Located.{located-same}
 use Rattle.record.specs.Texts.{locatedFrom, isMarkAt, measured, elementaryFrom, suffixFrom, suffixesFrom, baseTextFrom, kindFrom, fieldTextFrom, fieldsFrom, tupleTextFrom}
 use Rattle.record.proofs.Loops.{Steps}
@@ -52,32 +53,6 @@ on-full : {A : Type 0} (text : A → List ℕ) → ((a : A) → 0 < length (text
 on-full text h none u e = absurd (Option·none-ne-some u e)
 on-full text h (some a) u e = rw (← (Option·some-injective _ _ e)) (h a)
 
--- records read one by one, by their texts
-module _ {A L : Type 0} (nil : L) (cons : A → L → L) (D : ℕ → List ℕ → Option A) (text : A → List ℕ) (texts : L → List ℕ) (join : List ℕ → List ℕ → List ℕ)
-    (h : (a : A) (l : L) → texts (cons a l) ≡ join (text a) (texts l)) where
-  each-end : (k : ℕ) → onOption texts (eachIn 4 nil cons D k []) ≡ some (texts nil)
-  unfolding eachIn
-  each-end zero = refl
-  each-end (suc k) = refl
-
-  each-step : (k : ℕ) (b : List ℕ) → 0 < length b
-      → onOption texts (eachIn 4 nil cons D (suc k) b) ≡ onPiece (pieceOf 4 b) (λ j body r. given (onOption text (D j body)) (λ u. onOption (join u) (onOption texts (eachIn 4 nil cons D k r))))
-  unfolding eachIn
-  each-step k [] l = absurd (omega arith)
-  each-step k (c ∷ t) l = go (pieceOf 4 (c ∷ t))
-    where
-      last : (a : A) (o : Option L) → onOption texts (onOption (cons a) o) ≡ onOption (join (text a)) (onOption texts o)
-      last a none = refl
-      last a (some m) = ap some (h a m)
-
-      first : (o : Option A) (r : List ℕ) → onOption texts (given o (λ a. onOption (cons a) (eachIn 4 nil cons D k r))) ≡ given (onOption text o) (λ u. onOption (join u) (onOption texts (eachIn 4 nil cons D k r)))
-      first none r = refl
-      first (some a) r = last a (eachIn 4 nil cons D k r)
-
-      go : (p : Piece) → onOption texts (eachBy 4 cons D (λ r. eachIn 4 nil cons D k r) p) ≡ onPiece p (λ j body r. given (onOption text (D j body)) (λ u. onOption (join u) (onOption texts (eachIn 4 nil cons D k r))))
-      go noPiece = refl
-      go (piece j body r) = first (D j body) r
-
 -- suffixes, at most k
 unfoldable pub suffixesIn : ℕ → List ℕ → Option (List ℕ)
 suffixesIn k b = onOption suffixesText (eachIn 4 [] _∷_ decodeSuffix k b)
@@ -89,8 +64,8 @@ suffixes-in b = refl
 pub suffix-steps : Steps suffixesIn suffixFrom _++_ [] 0
 unfolding suffixesIn suffixFrom suffixesText
 suffix-steps = record {
-  end = each-end [] _∷_ decodeSuffix suffixText suffixesText _++_ (λ s ss. refl);
-  step = each-step [] _∷_ decodeSuffix suffixText suffixesText _++_ (λ s ss. refl);
+  end = mapped-end 4 [] _∷_ decodeSuffix suffixText suffixesText _++_ (λ s ss. refl);
+  step = mapped-step 4 [] _∷_ decodeSuffix suffixText suffixesText _++_ (λ s ss. refl);
   long = λ u v. omega (arith, length-append u v);
   full = λ j body. on-full suffixText suffix-full (decodeSuffix j body);
 }
@@ -109,8 +84,8 @@ parted u v = comma ∷ (u ++ v)
 pub field-steps : (sort : Sort) (d : ℕ) → Steps (fieldsIn sort d) (fieldTextFrom sort d) parted (rparen ∷ []) 1
 unfolding fieldsIn fieldTextFrom fieldText kindsOf restText
 field-steps sort d = let D = fieldFrom 4 sort (baseFrom (tupleFrom 4 d)) in record {
-  end = each-end noField moreFields D fieldText (λ fs. restText (kindsOf fs)) parted (λ f fs. refl);
-  step = each-step noField moreFields D fieldText (λ fs. restText (kindsOf fs)) parted (λ f fs. refl);
+  end = mapped-end 4 noField moreFields D fieldText (λ fs. restText (kindsOf fs)) parted (λ f fs. refl);
+  step = mapped-step 4 noField moreFields D fieldText (λ fs. restText (kindsOf fs)) parted (λ f fs. refl);
   long = λ u v. omega (arith, length-append u v);
   full = λ j body. on-full fieldText field-full (D j body);
 }
