@@ -138,7 +138,7 @@ text-of : (o : Option (List ℕ)) (u : List ℕ) → orWrongSort o ≡ writes u 
 text-of none u e = absurd (refuses-not e)
 text-of (some v) u e = cc
 
-said-by : {A : Type 0} (o : Option A) (f : A → Output) (u : List ℕ) → ofRecord o f ≡ writes u → (a : A) × (o ≡ some a) × (f a ≡ writes u)
+pub said-by : {A : Type 0} (o : Option A) (f : A → Output) (u : List ℕ) → ofRecord o f ≡ writes u → (a : A) × (o ≡ some a) × (f a ≡ writes u)
 said-by none f u e = absurd (refuses-not e)
 said-by (some a) f u e = (a, refl, e)
 

@@ -34,3 +34,7 @@ pub mod Finding
 pub mod FindExamples
 pub mod Appending
 pub mod Joining
+pub mod TightNodes
+pub mod TightTrees
+pub mod Tight
+pub mod TightExamples
