@@ -1,5 +1,5 @@
 -- Runs of the calls: what a call was lent, what it answered and what it left, in the form that its contract ensures; and what demand 3 and the
--- orders 3, 4 and 5 say of them.
+-- orders 3, 4, 5 and 13 say of them.
 -- Assumes nothing.
 use mathlib.Core.Path.{_≡_}
 use mathlib.Core.Bool.{true, false}
@@ -9,18 +9,22 @@ use Prim.Native.Nat.{ℕ, _≤_}
 use lib.ListN.{length, take}
 use Rattle.kinds.specs.Bytes.{space}
 use Rattle.kinds.specs.Kind.{Prototype}
+use Rattle.kinds.specs.Signatures.{Signature}
 use Rattle.model.specs.declared.Keyword.{Keyword}
+use Rattle.model.specs.declared.Keyword.the-variants as key
 use Rattle.model.specs.declared.Call.{Call}
 use Rattle.model.specs.declared.Call.the-variants as call
 use Rattle.model.specs.declared.Answer.{Answer}
-use Rattle.model.specs.Tree.{Field, Declaration, kindOf, fieldOf, nameKinds}
-use Rattle.model.specs.Reading.{keywordText}
+use Rattle.model.specs.Tree.{Field, Declaration, kindOf, fieldOf, nameKinds, signatureOf}
+use Rattle.model.specs.Parser.{got}
+use Rattle.model.specs.Reading.{keywordText, parse}
+use Rattle.model.specs.Layout.{Bytes}
 use Rattle.model.specs.Record.{decode, decodeLone}
 use Rattle.model.specs.Line.{keywordIn}
 use Rattle.model.specs.Answer.{accepted, said, outcome, after, handed, refusalNumber}
 use Rattle.model.specs.Sheet.{isBlankLine, sheetOutput}
-use Rattle.model.specs.Calls.{readOutput, kindOutput, canonicalOutput, kindTextOutput, nameOutput, AcceptedAs}
-use Rattle.model.specs.Full.{fullOutput}
+use Rattle.model.specs.Calls.{readOutput, kindOutput, canonicalOutput, signatureOutput, kindTextOutput, nameOutput, AcceptedAs}
+use Rattle.model.specs.Full.{fullOutput, Takes}
 
 -- a reading call on a text, which was lent `room` and left it as `left`
 pub record ReadRun (c : Call) (text room left : List ℕ) (r : Answer) : Type 0 where
@@ -42,6 +46,11 @@ pub record SheetRun (text room left : List ℕ) (line : ℕ) (r : Answer) : Type
 pub record CanonicalRun (b room left : List ℕ) (r : Answer) : Type 0 where
   pub says : said r ≡ outcome (length room) (canonicalOutput b)
   pub leaves : left ≡ after room (canonicalOutput b)
+
+-- the signature call on a record
+pub record SignatureRun (b room left : List ℕ) (r : Answer) : Type 0 where
+  pub says : said r ≡ outcome (length room) (signatureOutput b)
+  pub leaves : left ≡ after room (signatureOutput b)
 
 -- the full text call on a record
 pub record FullRun (b room left : List ℕ) (r : Answer) : Type 0 where
@@ -121,3 +130,47 @@ pub data ReadSingly : List (List ℕ) → List ℕ → Type 0 where
   one-line : {l b : List ℕ} {ls : List (List ℕ)} {u : List ℕ} → isBlankLine l ≡ false
       → ((room left : List ℕ) (r : Answer) → length b ≤ length room → ReadRun call.General l room left r → (said r ≡ accepted (length b)) × (take (length b) left ≡ b))
       → ReadSingly ls u → ReadSingly (l ∷ ls) (b ++ u)
+
+-- Order 13: "The condition covers functions read since order 2." A text that the general call or the function call accepted as a function with the
+-- signature f; b is the record that it wrote
+pub record FunctionRead (s : List ℕ) (f : Signature) (b : List ℕ) : Type 0 where
+  pub call : Call
+  pub takes : Takes key.Function call
+  pub declaration : Declaration
+  pub place : ℕ
+  pub reads : parse call s ≡ got declaration place
+  pub says : signatureOf declaration ≡ some f
+  pub room : List ℕ
+  pub left : List ℕ
+  pub answer : Answer
+  pub n : ℕ
+  pub reading : ReadRun call s room left answer
+  pub read : said answer ≡ accepted n
+  pub written : b ≡ take n left
+
+-- bytes of any origin that are a well-formed function record with the signature f
+pub record FunctionRecord (b : List ℕ) (f : Signature) : Type 0 where
+  pub bytes : Bytes b
+  pub declaration : Declaration
+  pub decoded : decode b ≡ some declaration
+  pub says : signatureOf declaration ≡ some f
+
+-- the line l that the signature call wrote of the record b
+pub record SignatureWritten (b l : List ℕ) : Type 0 where
+  pub room : List ℕ
+  pub left : List ℕ
+  pub answer : Answer
+  pub n : ℕ
+  pub writing : SignatureRun b room left answer
+  pub written : said answer ≡ accepted n
+  pub line : l ≡ take n left
+
+-- a function by its text or by its record, with its signature and its line
+pub data FunctionIn : List ℕ → Signature → List ℕ → Type 0 where
+  by-text : {s b l : List ℕ} {f : Signature} → FunctionRead s f b → SignatureWritten b l → FunctionIn s f l
+  by-record : {b l : List ℕ} {f : Signature} → FunctionRecord b f → SignatureWritten b l → FunctionIn b f l
+
+-- lists of functions, texts and records in any mix, each with its signature and its line at the same place
+pub data SignaturesOf : List (List ℕ) → List Signature → List (List ℕ) → Type 0 where
+  no-function : SignaturesOf [] [] []
+  one-function : {x l : List ℕ} {f : Signature} {xs ls : List (List ℕ)} {fs : List Signature} → FunctionIn x f l → SignaturesOf xs fs ls → SignaturesOf (x ∷ xs) (f ∷ fs) (l ∷ ls)

@@ -1,8 +1,8 @@
-// The calls that demand 3 and the orders 3, 4 and 5 speak of, each with its contract in the form in which the theorems of proofs take it: that it has that
+// The calls that demand 3 and the orders 3, 4, 5 and 13 speak of, each with its contract in the form in which the theorems of proofs take it: that it has that
 // form is what is proved here.
 use model::Answer;
 use model::Call;
-ghost use Rattle.demand.specs.Runs.{ReadRun, KindRun, SheetRun, CanonicalRun, FullRun, KindTextRun, NameRun};
+ghost use Rattle.demand.specs.Runs.{ReadRun, KindRun, SheetRun, CanonicalRun, SignatureRun, FullRun, KindTextRun, NameRun};
 
 pub fn parse_declaration(text: &[u8], record: &mut [u8]) -> Answer
     ensures { λ r. ⌜ ReadRun Call.General (now (text .entry)) (now («record» .entry)) (now («record» .exit)) r ⌝ }
@@ -50,6 +50,12 @@ pub fn canonical(record: &[u8], text: &mut [u8]) -> Answer
     ensures { λ r. ⌜ CanonicalRun (now («record» .entry)) (now (text .entry)) (now (text .exit)) r ⌝ }
 {
     abi::canonical(record, text)
+}
+
+pub fn signature(record: &[u8], text: &mut [u8]) -> Answer
+    ensures { λ r. ⌜ SignatureRun (now («record» .entry)) (now (text .entry)) (now (text .exit)) r ⌝ }
+{
+    abi::signature(record, text)
 }
 
 pub fn full_text(record: &[u8], text: &mut [u8]) -> Answer

@@ -138,7 +138,7 @@ mutual
   reads-rest (moreKinds k ks) = rest-more k ks (reads k) (reads-rest ks)
 
 -- a prototype is read, and so is each of a list
-prototype-read : (p : Prototype) (done : List Prototype) (t : List ℕ) → isWord (p .name) ≡ true → feed (inName done []) (canonical p ++ t) ≡ feed (inName (done ++ (p ∷ [])) []) t
+pub prototype-read : (p : Prototype) (done : List Prototype) (t : List ℕ) → isWord (p .name) ≡ true → feed (inName done []) (canonical p ++ t) ≡ feed (inName (done ++ (p ∷ [])) []) t
 unfolding canonical kindText feed step close
 prototype-read p done t h =
     ap (feed (inName done [])) (append-assoc (p .name) (kindText (tuple (p .kinds))) t)

@@ -3,3 +3,4 @@ pub mod Decimal
 pub mod Machine
 pub mod Joined
 pub mod Examples
+pub mod Signatures

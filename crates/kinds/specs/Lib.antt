@@ -2,3 +2,4 @@ pub mod Bytes
 pub mod Decimal
 pub mod Kind
 pub mod Joined
+pub mod Signatures

@@ -38,3 +38,4 @@ pub mod TightNodes
 pub mod TightTrees
 pub mod Tight
 pub mod TightExamples
+pub mod Signatures

@@ -4,6 +4,7 @@ use mathlib.Core.List.{List, [], _∷_, _++_}
 use mathlib.Core.Option.{Option, none, some}
 use Prim.Native.Nat.{ℕ}
 use Rattle.kinds.specs.Kind.{Elementary, Suffix, Kind, Kinds, noKind, moreKinds, Prototype}
+use Rattle.kinds.specs.Signatures.{Signature}
 
 -- "A field is a kind, then a mark, then an optional name." The kind is a base, elementary or a tuple of fields, and its suffixes, innermost
 -- first; the mark is a modifier of the parameter, by the record's number; an absent name is empty
@@ -95,3 +96,10 @@ nameKinds (function m nm ins outs) = some (record { name = nm; kinds = kindsOf i
 nameKinds (constructor m ins) = none
 nameKinds (event a nm ins) = some (record { name = nm; kinds = kindsOf ins })
 nameKinds (error nm ins) = some (record { name = nm; kinds = kindsOf ins })
+
+-- Order 13: "name, inputs and outputs, kinds only", of a function
+unfoldable pub signatureOf : Declaration → Option Signature
+signatureOf (function m nm ins outs) = some (record { name = nm; inputs = kindsOf ins; outputs = kindsOf outs })
+signatureOf (constructor m ins) = none
+signatureOf (event a nm ins) = none
+signatureOf (error nm ins) = none
