@@ -5,7 +5,7 @@ use Prim.Native.Nat.{ℕ, _≤_, _<_}
 use native.Mathlib.Omega.{arith}
 use denote.Enum.Declared.{tagOf}
 use Rattle.model.specs.declared.Refusal.{Refusal}
-use Rattle.model.specs.declared.Refusal.the-variants.{Eos, ExpectOpen, ExpectClose, ExpectDeclaration, ExpectKeyword, ExpectIdentifier, ExpectEnd, TooLong, NotUtf8, TooDeep, InvalidBitWidth, InvalidByteLength, Unknown, NotWellFormed, WrongSort, NoRoom, SheetTooLong, TooManyDeclarations, Repeated, CallTooLong, NotAnEncoding, NoSuchFunction, SheetChanged, NotTight}
+use Rattle.model.specs.declared.Refusal.the-variants.{Eos, ExpectOpen, ExpectClose, ExpectDeclaration, ExpectKeyword, ExpectIdentifier, ExpectEnd, TooLong, NotUtf8, TooDeep, InvalidBitWidth, InvalidByteLength, Unknown, NotWellFormed, WrongSort, NoRoom, SheetTooLong, TooManyDeclarations, Repeated, CallTooLong, NotAnEncoding, NoSuchFunction, SheetChanged, NotTight, NoSuchSample}
 use Rattle.model.specs.declared.Answer.{Answer}
 use Rattle.model.specs.declared.Answer.the-variants.{Accepted, Refused}
 use Rattle.model.specs.Answer.{refused, number, said}
@@ -38,6 +38,7 @@ numbers NotAnEncoding = (λ e. omega arith, λ e. omega arith, λ h. omega arith
 numbers NoSuchFunction = (λ e. omega arith, λ e. omega arith, λ h. omega arith)
 numbers SheetChanged = (λ e. omega arith, λ e. omega arith, λ h. omega arith)
 numbers NotTight = (λ e. omega arith, λ e. omega arith, λ h. omega arith)
+numbers NoSuchSample = (λ e. omega arith, λ e. omega arith, λ h. omega arith)
 
 pub no-refusal-0 : (w : Refusal) → number w ≡ 0 → ⊥
 no-refusal-0 w e = numbers w .0 e

@@ -6,7 +6,7 @@ use Prim.Native.Nat.{ℕ}
 use lib.Dec.{ltb}
 use lib.ListN.{length, drop}
 use Rattle.model.specs.declared.Refusal.{Refusal}
-use Rattle.model.specs.declared.Refusal.the-variants.{Eos, ExpectOpen, ExpectClose, ExpectDeclaration, ExpectKeyword, ExpectIdentifier, ExpectEnd, TooLong, NotUtf8, TooDeep, InvalidBitWidth, InvalidByteLength, Unknown, NotWellFormed, WrongSort, NoRoom, SheetTooLong, TooManyDeclarations, Repeated, CallTooLong, NotAnEncoding, NoSuchFunction, SheetChanged, NotTight}
+use Rattle.model.specs.declared.Refusal.the-variants.{Eos, ExpectOpen, ExpectClose, ExpectDeclaration, ExpectKeyword, ExpectIdentifier, ExpectEnd, TooLong, NotUtf8, TooDeep, InvalidBitWidth, InvalidByteLength, Unknown, NotWellFormed, WrongSort, NoRoom, SheetTooLong, TooManyDeclarations, Repeated, CallTooLong, NotAnEncoding, NoSuchFunction, SheetChanged, NotTight, NoSuchSample}
 use Rattle.model.specs.declared.Answer.{Answer}
 use Rattle.model.specs.declared.Answer.the-variants.{Accepted, Refused}
 
@@ -36,6 +36,7 @@ number NotAnEncoding = 25
 number NoSuchFunction = 26
 number SheetChanged = 27
 number NotTight = 28
+number NoSuchSample = 29
 
 -- "an acceptance, or one refusal number and position"; an acceptance has the output's length
 pub data Outcome : Type 0 where

@@ -26,6 +26,7 @@ pub enum Refusal {
     NoSuchFunction,
     SheetChanged,
     NotTight,
+    NoSuchSample,
 }
 
 // What a call answers: the length of what it wrote, or why it refuses and where.

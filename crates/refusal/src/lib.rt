@@ -31,5 +31,6 @@ pub fn number(refusal: Refusal) -> u32
         Refusal::NoSuchFunction => 26,
         Refusal::SheetChanged => 27,
         Refusal::NotTight => 28,
+        Refusal::NoSuchSample => 29,
     }
 }

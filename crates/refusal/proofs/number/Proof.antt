@@ -76,6 +76,9 @@ enum-told-23 c = search needs
 enum-told-24 : tie.Need-enum-told-24
 enum-told-24 c = search needs
 
+enum-told-25 : tie.Need-enum-told-25
+enum-told-25 c = search needs
+
 returns : tie.Need-returns
 unfolding number
 returns c = sym (ap number (c .enum-told .given .1))
@@ -172,6 +175,10 @@ returns-24 : tie.Need-returns-24
 unfolding number
 returns-24 c = sym (ap number (c .enum-told24 .given .1))
 
+returns-25 : tie.Need-returns-25
+unfolding number
+returns-25 c = sym (ap number (c .enum-told25 .given .1))
+
 pub number-spec : {M : Type 1} → statement M
 number-spec =
     tie.close
@@ -200,6 +207,7 @@ number-spec =
     enum-told-22
     enum-told-23
     enum-told-24
+    enum-told-25
     returns
     returns-2
     returns-3
@@ -223,4 +231,5 @@ number-spec =
     returns-21
     returns-22
     returns-23
-    returns-24)
+    returns-24
+    returns-25)
