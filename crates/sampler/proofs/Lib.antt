@@ -1,0 +1,4 @@
+pub mod Elements
+pub mod Sampled
+pub mod Next
+pub mod Examples
