@@ -1,12 +1,17 @@
 -- Elements of lists: by membership, and by their index.
 -- Assumes nothing.
-use mathlib.Core.Path.{_≡_, refl, sym, _∙_, ap}
+use mathlib.Core.Path.{_≡_, refl, sym, ap}
 use mathlib.Core.Logic.{_↔_, _⊎_, inl, inr}
+use mathlib.Core.Bool.{Bool, true}
 use mathlib.Core.List.{List, [], _∷_, _++_, map}
 use mathlib.Core.Option.{none, some, Option·none-ne-some, Option·some-injective}
-use Prim.Native.Nat.{ℕ, zero, suc}
+use Prim.Native.Nat.{ℕ, zero, suc, _-_, _≤_, _<_}
+use native.Mathlib.Nat.{sub-zero}
 use native.Mathlib.Omega.{arith}
-use lib.ListN.{getElem?}
+use lib.ListN.{length, getElem?}
+use Rattle.kinds.specs.Bytes.{all}
+use Rattle.kinds.proofs.Logic.{left, right}
+use Rattle.model.specs.Record.{onOption}
 
 module _ {A : Type 0} where
   -- x is in a list
@@ -46,7 +51,7 @@ module _ {A : Type 0} where
       go (inr i) = f x (inl refl) i
 
   -- what is in a list has an index
-  index-in : (xs : List A) (i : ℕ) (x : A) → getElem? xs i ≡ some x → In x xs
+  pub index-in : (xs : List A) (i : ℕ) (x : A) → getElem? xs i ≡ some x → In x xs
   index-in [] i x e = absurd (Option·none-ne-some x e)
   index-in (y ∷ xs) zero x e = inl (sym (Option·some-injective _ _ e))
   index-in (y ∷ xs) (suc i) x e = inr (index-in xs i x e)
@@ -67,7 +72,41 @@ module _ {A : Type 0} where
   once-index (y ∷ xs) o (suc i) zero x e f = absurd (o .0 (rw (Option·some-injective _ _ f) (index-in xs i x e)))
   once-index (y ∷ xs) o (suc i) (suc j) x e f = ap suc (once-index xs (o .1) i j x e f)
 
+  -- what stands at an index
+  pub at-some : (xs : List A) (i : ℕ) → i < length xs → (x : A) × (getElem? xs i ≡ some x)
+  at-some [] i h = absurd (omega arith)
+  at-some (y ∷ xs) zero h = (y, refl)
+  at-some (y ∷ xs) (suc i) h = at-some xs i (omega arith)
+
+  pub at-none : (xs : List A) (i : ℕ) → length xs ≤ i → getElem? xs i ≡ none
+  at-none [] i h = refl
+  at-none (y ∷ xs) zero h = absurd (omega arith)
+  at-none (y ∷ xs) (suc i) h = at-none xs i (omega arith)
+
+  pub at-left : (xs ys : List A) (i : ℕ) → i < length xs → getElem? (xs ++ ys) i ≡ getElem? xs i
+  at-left [] ys i h = absurd (omega arith)
+  at-left (x ∷ xs) ys zero h = refl
+  at-left (x ∷ xs) ys (suc i) h = at-left xs ys i (omega arith)
+
+  pub at-right : (xs ys : List A) (i : ℕ) → length xs ≤ i → getElem? (xs ++ ys) i ≡ getElem? ys (i - length xs)
+  at-right [] ys i h = rw sub-zero
+  at-right (x ∷ xs) ys zero h = absurd (omega arith)
+  at-right (x ∷ xs) ys (suc i) h =
+      let e : suc i - suc (length xs) ≡ i - length xs = omega arith in
+      rw e (at-right xs ys i (omega arith))
+
+  -- what every element passes
+  pub all-at : (p : A → Bool) (xs : List A) (i : ℕ) (x : A) → all p xs ≡ true → getElem? xs i ≡ some x → p x ≡ true
+  all-at p [] i x h e = absurd (Option·none-ne-some x e)
+  all-at p (y ∷ xs) zero x h e = rw (← Option·some-injective _ _ e) (left _ h)
+  all-at p (y ∷ xs) (suc i) x h e = all-at p xs i x (right (p y) h) e
+
 module _ {A B : Type 0} (f : A → B) where
+  pub at-map : (xs : List A) (i : ℕ) → getElem? (map f xs) i ≡ onOption f (getElem? xs i)
+  at-map [] i = refl
+  at-map (x ∷ xs) zero = refl
+  at-map (x ∷ xs) (suc i) = at-map xs i
+
   pub in-map : (x : A) (xs : List A) → In x xs → In (f x) (map f xs)
   in-map x [] i = i
   in-map x (y ∷ xs) (inl e) = inl (ap f e)

@@ -2,3 +2,9 @@ pub mod Elements
 pub mod Sampled
 pub mod Next
 pub mod Examples
+pub mod Counts
+pub mod Parts
+pub mod Texts
+pub mod Writing
+pub mod Small
+pub mod Sampling

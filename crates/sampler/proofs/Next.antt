@@ -1,6 +1,6 @@
 -- The kinds and the lists of a weight by those of lower weights: the bound of the definitions is never short.
 -- Assumes nothing.
-use mathlib.Core.Path.{_≡_, refl, _∙_, ap, ap₂}
+use mathlib.Core.Path.{_≡_, refl, _∙_, ap₂}
 use mathlib.Core.List.{List, [], _∷_, _++_, map}
 use Prim.Native.Nat.{ℕ, zero, suc, _+_, _*_, _≤_}
 use native.Mathlib.Omega.{arith}
@@ -8,7 +8,8 @@ use Rattle.kinds.specs.Kind.{unsized, Kind, tuple, array, Kinds, noKind}
 use Rattle.sampler.specs.Sampler.{fours, chains, spread, kindsIn, listsIn, sampled, listed}
 
 -- lists go by the kinds and lists of the weights that they ask for
-spread-same : (K K₁ : ℕ → List Kind) (L L₁ : ℕ → List Kinds) (v n : ℕ) → ((i : ℕ) → i ≤ v + n → K i ≡ K₁ i) → ((i : ℕ) → i ≤ n → L i ≡ L₁ i) → spread K L v n ≡ spread K₁ L₁ v n
+spread-same : (K K₁ : ℕ → List Kind) (L L₁ : ℕ → List Kinds) (v n : ℕ) → ((i : ℕ) → i ≤ v + n → K i ≡ K₁ i) → ((i : ℕ) → i ≤ n → L i ≡ L₁ i)
+    → spread K L v n ≡ spread K₁ L₁ v n
 unfolding spread
 spread-same K K₁ L L₁ v zero h g = ap₂ chains (h v (omega arith)) (g 0 (omega arith))
 spread-same K K₁ L L₁ v (suc n) h g =
@@ -30,7 +31,8 @@ mutual
   kinds-same zero g (suc w) h l = absurd (omega arith)
   kinds-same (suc f) zero (suc w) h l = absurd (omega arith)
   kinds-same (suc f) (suc g) (suc w) h l =
-      kinds-step w (kindsIn f w) (kindsIn g w) (listsIn f w) (listsIn g w) (kinds-same f g w (omega arith) (omega arith)) (lists-same f g w (omega arith) (omega arith))
+      kinds-step w (kindsIn f w) (kindsIn g w) (listsIn f w) (listsIn g w)
+      (kinds-same f g w (omega arith) (omega arith)) (lists-same f g w (omega arith) (omega arith))
 
   lists-same : (f g w : ℕ) → 2 * w + 1 ≤ f → 2 * w + 1 ≤ g → listsIn f w ≡ listsIn g w
   lists-same zero g w h l = absurd (omega arith)
@@ -45,7 +47,8 @@ pub sampled-next : (w : ℕ) → sampled (suc w) ≡ fours w ++ (map (λ k. arra
 unfolding sampled listed kindsIn
 sampled-next w =
     kinds-same (2 * suc w) (suc (2 * w + 1)) (suc w) (omega arith) (omega arith)
-    ∙ kinds-step w (kindsIn (2 * w + 1) w) (kindsIn (2 * w) w) (listsIn (2 * w + 1) w) (listsIn (2 * w + 1) w) (kinds-same (2 * w + 1) (2 * w) w (omega arith) (omega arith)) refl
+    ∙ kinds-step w (kindsIn (2 * w + 1) w) (kindsIn (2 * w) w) (listsIn (2 * w + 1) w) (listsIn (2 * w + 1) w)
+    (kinds-same (2 * w + 1) (2 * w) w (omega arith) (omega arith)) refl
 
 -- "those whose first component weighs less first, then by that component's index, then by the remaining list under the same rule, the empty list first"
 pub listed-none : listed 0 ≡ noKind ∷ []

@@ -30,7 +30,7 @@ pub record Chained (z : Kinds) (xs : List Kind) (yss : List Kinds) : Type 0 wher
   pub rest-in : In rest yss
   pub same : z ≡ moreKinds first rest
 
-in-chained : (z : Kinds) (xs : List Kind) (yss : List Kinds) → In z (chains xs yss) → Chained z xs yss
+pub in-chained : (z : Kinds) (xs : List Kind) (yss : List Kinds) → In z (chains xs yss) → Chained z xs yss
 unfolding chains
 in-chained z [] yss i = absurd i
 in-chained z (x ∷ xs) yss i = go (in-either z (map (moreKinds x) yss) (chains xs yss) i) (λ j. in-chained z xs yss j)
@@ -66,7 +66,7 @@ module _ (K : ℕ → List Kind) (L : ℕ → List Kinds) where
     pub within : step ≤ n
     pub there : In z (chains (K (i + step)) (L (n - step)))
 
-  spread-in : (z : Kinds) (i n : ℕ) → In z (spread K L i n) → Spread z i n
+  pub spread-in : (z : Kinds) (i n : ℕ) → In z (spread K L i n) → Spread z i n
   unfolding spread
   spread-in z i zero x = record { step = 0; within = omega arith; there = rw (add-zero, sub-zero) x }
   spread-in z i (suc n) x = go (in-either z (chains (K i) (L (suc n))) (spread K L (suc i) n) x) (λ y. spread-in z (suc i) n y)
@@ -92,6 +92,13 @@ module _ (K : ℕ → List Kind) (L : ℕ → List Kinds) where
         let same-first : c .first ≡ d .first = cc (c .same, d .same) in
         let i-is : i ≡ suc i + s .step = apart (d .first) i (suc i + s .step) (rw same-first at (c .first-in)) (d .first-in) in
         omega arith)
+
+-- arrays and tuples that weigh 1 more
+abbrev arraysIn : ℕ → ℕ → List Kind
+arraysIn f w = map (λ k. array k unsized) (kindsIn f w)
+
+abbrev tuplesIn : ℕ → ℕ → List Kind
+tuplesIn f w = map tuple (listsIn f w)
 
 -- what is in a list weighs what the list says
 four-weighs : (k : Kind) (w : ℕ) → In k (fours w) → weight k ≡ some (suc w)
@@ -121,16 +128,16 @@ none-weighs z (inl e) = rw e
 none-weighs z (inr i) = absurd i
 
 kinds-by : (f w : ℕ) → ((k : Kind) (v : ℕ) → In k (kindsIn f v) → weight k ≡ some v) → ((ks : Kinds) (v : ℕ) → In ks (listsIn f v) → weights ks ≡ some v)
-    → (k : Kind) → In k (fours w ++ (map (λ k. array k unsized) (kindsIn f w) ++ map tuple (listsIn f w))) → weight k ≡ some (suc w)
+    → (k : Kind) → In k (fours w ++ (arraysIn f w ++ tuplesIn f w)) → weight k ≡ some (suc w)
 kinds-by f w K L k i = go (in-either k (fours w) _ i)
   where
-    go₂ : In k (map (λ k. array k unsized) (kindsIn f w)) ⊎ In k (map tuple (listsIn f w)) → weight k ≡ some (suc w)
+    go₂ : In k (arraysIn f w) ⊎ In k (tuplesIn f w) → weight k ≡ some (suc w)
     go₂ (inl j) = let (x, l, e) = in-mapped (λ k. array k unsized) k (kindsIn f w) j in array-weighs k x w e (K x w l)
     go₂ (inr j) = let (x, l, e) = in-mapped tuple k (listsIn f w) j in tuple-weighs k x w e (L x w l)
 
-    go : In k (fours w) ⊎ In k (map (λ k. array k unsized) (kindsIn f w) ++ map tuple (listsIn f w)) → weight k ≡ some (suc w)
+    go : In k (fours w) ⊎ In k (arraysIn f w ++ tuplesIn f w) → weight k ≡ some (suc w)
     go (inl j) = four-weighs k w j
-    go (inr j) = go₂ (in-either k (map (λ k. array k unsized) (kindsIn f w)) (map tuple (listsIn f w)) j)
+    go (inr j) = go₂ (in-either k (arraysIn f w) (tuplesIn f w) j)
 
 lists-by : (f w : ℕ) → ((k : Kind) (v : ℕ) → In k (kindsIn f v) → weight k ≡ some v) → ((ks : Kinds) (v : ℕ) → In ks (listsIn f v) → weights ks ≡ some v)
     → (z : Kinds) → In z (spread (λ i. kindsIn f i) (λ i. listsIn f i) 1 w) → weights z ≡ some (suc w)
@@ -181,22 +188,24 @@ four-bare k zero (inr (inr (inr (inl e)))) = (string, e)
 four-bare k zero (inr (inr (inr (inr i)))) = absurd i
 four-bare k (suc w) i = absurd i
 
-kinds-once : (f w : ℕ) → Once (kindsIn f w) → Once (listsIn f w) → Once (fours w ++ (map (λ k. array k unsized) (kindsIn f w) ++ map tuple (listsIn f w)))
+kinds-once : (f w : ℕ) → Once (kindsIn f w) → Once (listsIn f w) → Once (fours w ++ (arraysIn f w ++ tuplesIn f w))
 kinds-once f w o p =
     once-append (fours w) _ (once-four w)
-    (once-append (map (λ k. array k unsized) (kindsIn f w)) (map tuple (listsIn f w)) (once-map (λ k. array k unsized) (λ x y e. cc) (kindsIn f w) o) (once-map tuple (λ x y e. cc) (listsIn f w) p) array-tuple)
+    (once-append (arraysIn f w) (tuplesIn f w)
+    (once-map (λ k. array k unsized) (λ x y e. cc) (kindsIn f w) o) (once-map tuple (λ x y e. cc) (listsIn f w) p)
+    array-tuple)
     four-other
   where
-    array-tuple : (x : Kind) → In x (map (λ k. array k unsized) (kindsIn f w)) → In x (map tuple (listsIn f w)) → ⊥
+    array-tuple : (x : Kind) → In x (arraysIn f w) → In x (tuplesIn f w) → ⊥
     array-tuple x i j =
         let (a, _, e) = in-mapped (λ k. array k unsized) x (kindsIn f w) i in
         let (b, _, g) = in-mapped tuple x (listsIn f w) j in
         let z : _≡_ {A = ℕ} 0 1 = cc in omega arith
 
-    four-other : (x : Kind) → In x (fours w) → In x (map (λ k. array k unsized) (kindsIn f w) ++ map tuple (listsIn f w)) → ⊥
-    four-other x i j = go (in-either x (map (λ k. array k unsized) (kindsIn f w)) (map tuple (listsIn f w)) j)
+    four-other : (x : Kind) → In x (fours w) → In x (arraysIn f w ++ tuplesIn f w) → ⊥
+    four-other x i j = go (in-either x (arraysIn f w) (tuplesIn f w) j)
       where
-        go : In x (map (λ k. array k unsized) (kindsIn f w)) ⊎ In x (map tuple (listsIn f w)) → ⊥
+        go : In x (arraysIn f w) ⊎ In x (tuplesIn f w) → ⊥
         go (inl l) =
             let (e, g) = four-bare x w i in
             let (a, _, h) = in-mapped (λ k. array k unsized) x (kindsIn f w) l in
@@ -270,7 +279,7 @@ elementary-case : (e : Elementary) → KindIn (elementary e)
 unfolding weight kindsIn listsIn
 elementary-case e zero f h l = absurd (omega (arith, elementary-in e 0 h .0))
 elementary-case e (suc w) zero h l = absurd (omega arith)
-elementary-case e (suc zero) (suc f) h l = in-left (elementary e) theFour (map (λ k. array k unsized) (kindsIn f 0) ++ map tuple (listsIn f 0)) (elementary-in e 1 h .1)
+elementary-case e (suc zero) (suc f) h l = in-left (elementary e) theFour (arraysIn f 0 ++ tuplesIn f 0) (elementary-in e 1 h .1)
 elementary-case e (suc (suc w)) (suc f) h l = absurd (omega (arith, elementary-in e (suc (suc w)) h .0))
 
 array-case : (k : Kind) → KindIn k → KindIn (array k unsized)
@@ -280,7 +289,8 @@ array-case k ih (suc w) zero h l = absurd (omega arith)
 array-case k ih (suc w) (suc f) h l =
     heavier-from (weight k) (suc w) h (λ v g e.
     let same : v ≡ w = omega arith in
-    in-right (array k unsized) (fours w) _ (in-left (array k unsized) (map (λ j. array j unsized) (kindsIn f w)) (map tuple (listsIn f w)) (in-map (λ j. array j unsized) k (kindsIn f w) (ih w f (g ∙ ap some same) (omega arith)))))
+    let there : In (array k unsized) (arraysIn f w) = in-map (λ j. array j unsized) k (kindsIn f w) (ih w f (g ∙ ap some same) (omega arith)) in
+    in-right (array k unsized) (fours w) _ (in-left (array k unsized) (arraysIn f w) (tuplesIn f w) there))
 
 tuple-case : (ks : Kinds) → ListIn ks → KindIn (tuple ks)
 unfolding weight kindsIn listsIn
@@ -289,7 +299,8 @@ tuple-case ks ih (suc w) zero h l = absurd (omega arith)
 tuple-case ks ih (suc w) (suc f) h l =
     heavier-from (weights ks) (suc w) h (λ v g e.
     let same : v ≡ w = omega arith in
-    in-right (tuple ks) (fours w) _ (in-right (tuple ks) (map (λ j. array j unsized) (kindsIn f w)) (map tuple (listsIn f w)) (in-map tuple ks (listsIn f w) (ih w f (g ∙ ap some same) (omega arith)))))
+    let there : In (tuple ks) (tuplesIn f w) = in-map tuple ks (listsIn f w) (ih w f (g ∙ ap some same) (omega arith)) in
+    in-right (tuple ks) (fours w) _ (in-right (tuple ks) (arraysIn f w) (tuplesIn f w) there))
 
 none-case : ListIn noKind
 unfolding weight listsIn kindsIn

@@ -1,13 +1,13 @@
 -- Order 14: every small kind by its weight and its index, and what the sampler writes.
 -- Assumes nothing.
-use mathlib.Core.Bool.{Bool, true, false}
+use mathlib.Core.Bool.{true, false}
 use mathlib.Core.List.{List, [], _∷_, _++_, map}
 use mathlib.Core.Option.{Option, none, some}
 use Prim.Native.Nat.{ℕ, zero, suc, _+_, _*_}
 use lib.Dec.{eqb}
 use lib.ListN.{getElem?}
 use Rattle.kinds.specs.Bytes.{between}
-use Rattle.kinds.specs.Kind.{bits, Elementary, int, uint, fixedBytes, address, bool, function, bytes, string, Suffix, sized, unsized, Kind, elementary, tuple, array, Kinds, noKind, moreKinds, kindText}
+use Rattle.kinds.specs.Kind.{bits, Elementary, int, uint, fixedBytes, address, bool, function, bytes, string, sized, unsized, Kind, elementary, tuple, array, Kinds, noKind, moreKinds, kindText}
 use Rattle.model.specs.declared.Refusal.the-variants.{NoSuchSample}
 use Rattle.model.specs.Record.{onOption}
 use Rattle.model.specs.Answer.{Output, writes, refuses}
