@@ -1,12 +1,14 @@
 -- How many kinds and lists there are, by weight.
 -- Assumes nothing.
-use mathlib.Core.Path.{_≡_, refl}
+use mathlib.Core.Path.{_≡_, refl, sym, _∙_}
 use mathlib.Core.Bool.{Bool, true, false}
-use mathlib.Core.Option.{some}
+use mathlib.Core.List.{List}
+use mathlib.Core.Option.{some, Option·none-ne-some}
 use Prim.Native.Nat.{ℕ, zero, suc, _-_, _≤_, _<_}
 use native.Mathlib.Omega.{arith}
+use lib.Dec.{ltb}
 use lib.ListN.{length, getElem?}
-use borrow.Author.Tests.{le-leb}
+use borrow.Author.Tests.{le-leb, ltb-true, ltb-false}
 use Rattle.kinds.specs.Bytes.{between}
 use Rattle.kinds.specs.Kind.{Kind, kindText}
 use Rattle.kinds.proofs.Logic.{both}
@@ -92,6 +94,11 @@ there w i h = go (between 1 4 w) refl
         record { low = low; high = high; kind = k; at = at; output = rw (sampleOutput, f, at) }
     go false f = let z : countOf w ≡ 0 = rw (countOf, f) in absurd (omega arith)
 
+pub sample-there : (w i : ℕ) (k : Kind) → w ≤ 4 → getElem? (sampled w) i ≡ some k → sampleOutput w i ≡ writes (kindText k)
+unfolding sampleOutput sampled kindsIn
+sample-there zero i k high at = absurd (Option·none-ne-some k at)
+sample-there (suc w) i k high at = rw (sampleOutput, both (le-leb 1 (suc w) (omega arith)) (le-leb (suc w) 4 high), at)
+
 pub not-there : (w i n : ℕ) → n ≡ countOf w → n ≤ i → sampleOutput w i ≡ refuses NoSuchSample 0
 unfolding countOf sampleOutput
 not-there w i n e h = go (between 1 4 w) refl
@@ -101,3 +108,14 @@ not-there w i n e h = go (between 1 4 w) refl
         let (low, high) = between-both 1 4 w f in
         rw (sampleOutput, f, at-none (sampled w) i (omega (arith, count-long w high)))
     go false f = rw (sampleOutput, f)
+
+-- what is written of an index is the text of its kind
+pub written-there : (w i : ℕ) (u : List ℕ) → sampleOutput w i ≡ writes u → There w i
+written-there w i u e = go (ltb i (countOf w)) refl
+  where
+    go : (t : Bool) → ltb i (countOf w) ≡ t → There w i
+    go true f = there w i (ltb-true i (countOf w) f)
+    go false f =
+        let g : refuses NoSuchSample 0 ≡ writes u = sym (not-there w i (countOf w) refl (ltb-false i (countOf w) f)) ∙ e in
+        let z : _≡_ {A = ℕ} 0 1 = cc in
+        absurd (omega arith)

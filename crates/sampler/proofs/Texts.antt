@@ -185,4 +185,4 @@ text-list w i n r s e h =
     (list-more (getElem? (sampled (r .weight)) (r .place / n)) (getElem? (listed (w - r .weight)) (r .place % n)) (commaText (w - r .weight))
     (rest-text (w - r .weight) (r .place % n)))
 
-pub ruleset words = (room-text, wrote-text, four-0, four-1, four-2, four-3)
+pub ruleset words = (wrote-text, four-0, four-1, four-2, four-3)

@@ -1,5 +1,7 @@
+use native.Mathlib.Omega.{arith}
 use borrow.Author.Needs.{needs}
-use Rattle.sampler.proofs.Texts.{words}
+use Rattle.abi.proofs.Leaves.{room-text}
+use Rattle.sampler.proofs.Texts.{four-0, four-1, four-2, four-3, words}
 use Rattle.sampler.proofs.write_four.Statement.{statement}
 use Rattle.sampler.proofs.write_four.Tie as tie
 
@@ -7,25 +9,25 @@ slice-aggregate-write-word : tie.Need-slice-aggregate-write-word
 slice-aggregate-write-word c = search needs
 
 write-word-requires : tie.Need-write-word-requires
-write-word-requires c κs = search (needs, words)
+write-word-requires c κs = omega (arith, room-text _ _ _ _ (c .before .before .before .before .pre) (four-0 _ (c .before .before .match .keys1)))
 
 slice-aggregate-write-word-2 : tie.Need-slice-aggregate-write-word-2
 slice-aggregate-write-word-2 c = search needs
 
 write-word-requires-2 : tie.Need-write-word-requires-2
-write-word-requires-2 c κs = search (needs, words)
+write-word-requires-2 c κs = omega (arith, room-text _ _ _ _ (c .before .before .before .before .pre) (four-1 _ (c .before .before .match .keys2)))
 
 slice-aggregate-write-word-3 : tie.Need-slice-aggregate-write-word-3
 slice-aggregate-write-word-3 c = search needs
 
 write-word-requires-3 : tie.Need-write-word-requires-3
-write-word-requires-3 c κs = search (needs, words)
+write-word-requires-3 c κs = omega (arith, room-text _ _ _ _ (c .before .before .before .before .pre) (four-2 _ (c .before .before .match .keys3)))
 
 slice-aggregate-write-word-4 : tie.Need-slice-aggregate-write-word-4
 slice-aggregate-write-word-4 c = search needs
 
 write-word-requires-4 : tie.Need-write-word-requires-4
-write-word-requires-4 c κs = search (needs, words)
+write-word-requires-4 c κs = omega (arith, room-text _ _ _ _ (c .before .before .before .before .pre) (four-3 _ _ _ (c .before .before .before .before .pre) (c .before .before .match .rest .0 .0 .1) (c .before .before .match .rest .0 .1) (c .before .before .match .rest .1)))
 
 same-length : tie.Need-same-length
 same-length c = search needs
