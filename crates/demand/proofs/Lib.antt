@@ -1,3 +1,4 @@
 pub mod Demand
 pub mod Sheets
 pub mod Signatures
+pub mod Strips

@@ -52,7 +52,7 @@ module _ {b l : List ℕ} {f : Signature} (x : FunctionRecord b f) (y : Signatur
 named-is : {b : List ℕ} {f : Signature} → FunctionRecord b f → isWord (f .name) ≡ true
 named-is {b} {f} x = signature-named (x .declaration) f (decode-exactly b (x .declaration) (x .bytes) .0 (x .decoded) .0) (x .says)
 
-function-is : {x l : List ℕ} {f : Signature} → FunctionIn x f l → (l ≡ signature f) × (isWord (f .name) ≡ true)
+pub function-is : {x l : List ℕ} {f : Signature} → FunctionIn x f l → (l ≡ signature f) × (isWord (f .name) ≡ true)
 function-is (by-text x y) = (line-is (read-record x) y, named-is (read-record x))
 function-is (by-record x y) = (line-is x y, named-is x)
 

@@ -2,7 +2,10 @@
 // form is what is proved here.
 use model::Answer;
 use model::Call;
+use strip::Piece;
+ghost use Rattle.strip.specs.Strip.{nextLine, nextSignature};
 ghost use Rattle.demand.specs.Runs.{ReadRun, KindRun, SheetRun, CanonicalRun, SignatureRun, FullRun, KindTextRun, NameRun};
+ghost use Rattle.demand.specs.Strips.{PieceRun};
 
 pub fn parse_declaration(text: &[u8], record: &mut [u8]) -> Answer
     ensures { λ r. ⌜ ReadRun Call.General (now (text .entry)) (now («record» .entry)) (now («record» .exit)) r ⌝ }
@@ -74,4 +77,16 @@ pub fn name<'a>(record: &'a [u8], refusal: &mut u32) -> &'a [u8]
     ensures { λ r. ⌜ NameRun (now («record» .entry)) (now r) (now (refusal .exit)) ⌝ }
 {
     abi::name(record, refusal)
+}
+
+pub fn next_line(strip: &[u8]) -> Piece
+    ensures { λ r. ⌜ PieceRun nextLine (now (strip .entry)) r ⌝ }
+{
+    strip::next_line(strip)
+}
+
+pub fn next_signature(strip: &[u8]) -> Piece
+    ensures { λ r. ⌜ PieceRun nextSignature (now (strip .entry)) r ⌝ }
+{
+    strip::next_signature(strip)
 }

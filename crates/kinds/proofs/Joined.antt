@@ -28,7 +28,7 @@ elementary-read function = refl
 elementary-read bytes = refl
 elementary-read string = refl
 
-elementary-word : (e : Elementary) → all isWordByte (elementaryText e) ≡ true
+pub elementary-word : (e : Elementary) → all isWordByte (elementaryText e) ≡ true
 unfolding elementaryText
 elementary-word (int (bits m)) = decimal-word m
 elementary-word (uint (bits m)) = decimal-word m
