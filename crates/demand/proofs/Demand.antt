@@ -23,7 +23,7 @@ use Rattle.model.specs.Layout.{Bytes}
 use Rattle.model.specs.Record.{encode, decode, decodeLone, wellFormed}
 use Rattle.model.specs.Line.{keywordIn, canonicalText, fieldText, line}
 use Rattle.model.specs.Answer.{accepted, refused, Output, writes, needed, said, outcome, after, handed, refusalNumber}
-use Rattle.model.specs.Calls.{written, readOutput, kindOutput, canonicalOutput, kindTextOutput, AcceptedAs, AllAccepted}
+use Rattle.model.specs.Calls.{written, readOutput, kindOutput, canonicalOutput, kindTextOutput, AcceptedAs, AllAccepted, SameKind}
 use Rattle.model.specs.Calls as calls
 use Rattle.model.specs.Full.{fullText, fullOutput, Takes}
 use Rattle.model.proofs.Records.{decode-exactly, encode-bytes}
@@ -179,6 +179,26 @@ module _ (b : List ℕ) (d : Declaration) (p : Prototype) (bytes : Bytes b) (say
             (e, ran _ (take m left) w room₂ left₂ r₂ (q .says) (q .leaves) (length (take m left)) e .1);
       }
 
+-- a run of the kind call on the kind text of a field that is read as the same kind
+pub kind-read-back : (f : Field) (t c : List ℕ) → t ≡ fieldText f → kindOutput t ≡ writes c → SameKind f c → (room left : List ℕ) (r : Answer) → needed (kindOutput t) ≤ length room
+    → KindRun t room left r → KindReadBack f t left r
+unfolding needed
+kind-read-back f t c is here s room left r k run =
+    let e = enough (kindOutput t) c here room left r (run .says) (run .leaves) (rw (here, needed) at k) in
+    let (_, there) = ran (kindOutput t) c here room left r (run .says) (run .leaves) (length c) e in
+    record {
+      n = length c;
+      read = e;
+      tree = s .tree;
+      says = ap decodeLone there ∙ s .says;
+      bare = s .bare;
+      same = s .same;
+      again = λ room₁ left₁ r₁ j q.
+          let w : kindTextOutput (take (length c) left) ≡ writes t = ap kindTextOutput there ∙ s .text ∙ ap writes (sym is) in
+          let g = enough _ t w room₁ left₁ r₁ (q .says) (q .leaves) j in
+          (g, ran _ t w room₁ left₁ r₁ (q .says) (q .leaves) (length t) g .1);
+    }
+
 -- Order 3: "Every field's kind text of at most 4,096 bytes must then read as the same kind." The bytes b are a well-formed field record, of which the
 -- kind-text call wrote the text
 module _ (b : List ℕ) (f : Field) (bytes : Bytes b) (says : decodeLone b ≡ some f) (room left : List ℕ) (r : Answer) (m : ℕ) (run : KindTextRun b room left r) (wrote : said r ≡ accepted m) where
@@ -188,25 +208,9 @@ module _ (b : List ℕ) (f : Field) (bytes : Bytes b) (says : decodeLone b ≡ s
 
   pub kind-reads-back : length (take m left) ≤ longestText → (room₁ left₁ : List ℕ) (r₁ : Answer) → needed (kindOutput (take m left)) ≤ length room₁ → KindRun (take m left) room₁ left₁ r₁
       → KindReadBack f (take m left) left₁ r₁
-  unfolding needed
   kind-reads-back h room₁ left₁ r₁ k run₁ =
       let (c, out, s) = kind-back b f bytes says (rw kind-is at h) in
-      let o : Output = kindOutput (take m left) in
-      let here : kindOutput (take m left) ≡ writes c = ap kindOutput kind-is ∙ out in
-      let e = enough o c here room₁ left₁ r₁ (run₁ .says) (run₁ .leaves) (rw (here, needed) at k) in
-      let (_, there) = ran o c here room₁ left₁ r₁ (run₁ .says) (run₁ .leaves) (length c) e in
-      record {
-        n = length c;
-        read = e;
-        tree = s .tree;
-        says = ap decodeLone there ∙ s .says;
-        bare = s .bare;
-        same = s .same;
-        again = λ room₂ left₂ r₂ j q.
-            let w : kindTextOutput (take (length c) left₁) ≡ writes (take m left) = ap kindTextOutput there ∙ s .text ∙ ap writes (sym kind-is) in
-            let g = enough _ (take m left) w room₂ left₂ r₂ (q .says) (q .leaves) j in
-            (g, ran _ (take m left) w room₂ left₂ r₂ (q .says) (q .leaves) (length (take m left)) g .1);
-      }
+      kind-read-back f (take m left) c kind-is (ap kindOutput kind-is ∙ out) s room₁ left₁ r₁ k run₁
 
 -- Order 4: "Read again, a line of at most 4,096 bytes gives the identical record." The bytes b are a well-formed declaration's record, of which the full
 -- text call wrote the line; it is read by the general call or the call named for its keyword, lent at least as many bytes as the record has
