@@ -2,3 +2,4 @@ pub mod Demand
 pub mod Sheets
 pub mod Signatures
 pub mod Strips
+pub mod Samples

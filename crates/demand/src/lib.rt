@@ -1,4 +1,4 @@
-// The calls that demand 3 and the orders 3, 4, 5 and 13 speak of, each with its contract in the form in which the theorems of proofs take it: that it has that
+// The calls that demand 3 and the orders 3, 4, 5, 13 and 14 speak of, each with its contract in the form in which the theorems of proofs take it: that it has that
 // form is what is proved here.
 use model::Answer;
 use model::Call;
@@ -6,6 +6,7 @@ use strip::Piece;
 ghost use Rattle.strip.specs.Strip.{nextLine, nextSignature};
 ghost use Rattle.demand.specs.Runs.{ReadRun, KindRun, SheetRun, CanonicalRun, SignatureRun, FullRun, KindTextRun, NameRun};
 ghost use Rattle.demand.specs.Strips.{PieceRun};
+ghost use Rattle.demand.specs.Samples.{SampleRun};
 
 pub fn parse_declaration(text: &[u8], record: &mut [u8]) -> Answer
     ensures { λ r. ⌜ ReadRun Call.General (now (text .entry)) (now («record» .entry)) (now («record» .exit)) r ⌝ }
@@ -47,6 +48,12 @@ pub fn parse_sheet(text: &[u8], record: &mut [u8], line: &mut usize) -> Answer
     ensures { λ r. ⌜ SheetRun (now (text .entry)) (now («record» .entry)) (now («record» .exit)) (now (line .exit)) r ⌝ }
 {
     sheet::parse_sheet(text, record, line)
+}
+
+pub fn sample(weight: usize, index: usize, text: &mut [u8]) -> Answer
+    ensures { λ r. ⌜ SampleRun weight index (now (text .entry)) (now (text .exit)) r ⌝ }
+{
+    sampler::sample(weight, index, text)
 }
 
 pub fn canonical(record: &[u8], text: &mut [u8]) -> Answer
