@@ -13,7 +13,8 @@ use Rattle.model.specs.declared.Answer.the-variants.{Accepted, Refused}
 use Rattle.model.specs.Record.{onOption}
 use Rattle.model.specs.Answer.{said, outcome, after}
 use Rattle.layout.specs.Buffer.{put}
-use Rattle.layout.proofs.Answers.{Ends, ends-refused, ends-full, ends-written}
+use Rattle.layout.specs.Answers.{Ends}
+use Rattle.layout.proofs.Answers.{ends-refused, ends-full, ends-written}
 use Rattle.layout.proofs.Writes.{wrote-put}
 use Rattle.abi.specs.Writes.{Wrote}
 use Rattle.sampler.specs.Sampler.{sampleOutput}
