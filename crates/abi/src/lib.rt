@@ -1,4 +1,6 @@
 // The lines that are written of a record: canonical text, signature and a field's kind; and the name in it.
+#![tactic(auto)]
+
 ghost use Rattle.std.specs.Prelude.{◌≡◌, ◌+◌, ◌≤◌, ◌<◌, length};
 ghost use Rattle.kinds.specs.Decimal.{decimal};
 ghost use Rattle.kinds.specs.Kind.{is_bit_width, is_byte_length};

@@ -1,4 +1,6 @@
 // Call data beside a function's record: the heads of its inputs, and whether data are the encoding of some values.
+#![tactic(auto)]
+
 ghost use Rattle.std.specs.Prelude.{◌≡◌, ◌∷◌, ◌+◌, ◌≤◌, length};
 ghost use Rattle.model.specs.Layout.{little_endian};
 ghost use Rattle.model.specs.Answer.{said, outcome, after};
@@ -18,7 +20,7 @@ const LIMIT: usize = 65536;
 const EACH: usize = 5;
 
 // Where the inputs of a function stand in its record, or why there are none.
-#[derive(Drop)]
+#[derive(Clone, Copy)]
 pub enum Inputs {
     At { from: usize, to: usize },
     Missing(Refusal),

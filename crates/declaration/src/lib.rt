@@ -1,4 +1,6 @@
 // The five reading calls. A text is read once, into an array of the call's own, and what was read is copied if all of it fits.
+#![tactic(auto)]
+
 ghost use Rattle.std.specs.Prelude.{◌≡◌, ◌≤◌, length};
 ghost use Rattle.model.specs.Answer.{said, outcome, after};
 ghost use Rattle.model.specs.Calls.{read_output};
@@ -131,7 +133,7 @@ fn by_size(text: &[u8], k: Keyword, record: &mut [u8]) -> Answer
 }
 
 // Whether a text is read at all.
-#[derive(Drop)]
+#[derive(Clone, Copy)]
 pub enum Admitted {
     Whole,
     Not { refusal: Refusal, at: usize },

@@ -1,12 +1,12 @@
 -- Order 13 of the calls themselves: signatures that the signature call wrote, joined, are equal exactly where the functions agree.
 -- Assumes nothing.
-use mathlib.Core.Path.{◌≡◌, refl, sym, ◌∙◌, ap, ap₂}
+use mathlib.Core.Path.{◌≡◌, refl, sym, ◌∙◌, ap₂}
 use mathlib.Core.Logic.{◌↔◌}
 use mathlib.Core.Bool.{true}
 use mathlib.Core.List.{List, ◌++◌}
 use mathlib.Core.Option.{some}
 use Prim.Native.Nat.{ℕ, ◌≤◌}
-use lib.ListN.{length, take}
+use lib.ListN.{length}
 use Rattle.kinds.specs.Bytes.{is_word}
 use Rattle.kinds.specs.Signatures.{Signature, signature, joined_signatures, signatures_named, SignaturesAgree}
 use Rattle.kinds.proofs.Logic.{both}
@@ -17,8 +17,8 @@ use Rattle.model.specs.declared.Answer.{Answer}
 use Rattle.model.specs.Tree.{Declaration, signature_of}
 use Rattle.model.specs.Parser.{got}
 use Rattle.model.specs.Reading.{parse}
-use Rattle.model.specs.Record.{encode, decode, well_formed}
-use Rattle.model.specs.Answer.{accepted, writes, needed, said}
+use Rattle.model.specs.Record.{encode, well_formed}
+use Rattle.model.specs.Answer.{writes, needed}
 use Rattle.model.specs.Calls.{written, read_output, signature_output}
 use Rattle.model.specs.Full.{Takes}
 use Rattle.model.proofs.Records.{decode-exactly, encode-bytes}

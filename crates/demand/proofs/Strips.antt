@@ -19,7 +19,7 @@ use Rattle.model.proofs.Sound.{Proper, proper}
 use Rattle.strip.specs.Strip.{next_line, next_signature}
 use Rattle.strip.proofs.Lines.{line_first, signature-first, no_line_lem, no_signature_lem}
 use Rattle.demand.specs.Runs.{SignaturesOf, no_function, one_function, end_to_end}
-use Rattle.demand.specs.Strips.{PieceRun, TakenApart, nothing_left, one_piece, RecordLine, RecordLines, no_record, one_record}
+use Rattle.demand.specs.Strips.{TakenApart, nothing_left, one_piece, RecordLine, RecordLines, no_record, one_record}
 use Rattle.demand.proofs.Demand.{ran}
 use Rattle.demand.proofs.Signatures.{function-is}
 

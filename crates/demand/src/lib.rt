@@ -1,5 +1,7 @@
 // The calls that demand 3 and the orders 3, 4, 5, 13 and 14 speak of, each with its contract in the form in which the theorems of proofs take it: that it has that
 // form is what is proved here.
+#![tactic(auto)]
+
 ghost use Rattle.strip.specs.Strip.{next_line, next_signature};
 ghost use Rattle.demand.specs.Runs.{ReadRun, KindRun, SheetRun, CanonicalRun, SignatureRun, FullRun, KindTextRun, NameRun};
 ghost use Rattle.demand.specs.Strips.{PieceRun};

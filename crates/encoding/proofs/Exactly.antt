@@ -2,7 +2,7 @@
 -- Assumes nothing.
 use mathlib.Core.Path.{◌≡◌, refl, sym, ◌∙◌, ap}
 use mathlib.Core.Logic.{◌↔◌}
-use mathlib.Core.Bool.{Bool, true, false, ◌&&◌, and-eq-true_iff, false≢true}
+use mathlib.Core.Bool.{Bool, true, ◌&&◌, and-eq-true_iff, false≢true}
 use mathlib.Core.List.{List, [], ◌∷◌, ◌++◌, append-nil}
 use mathlib.Core.Option.{Option, none, some}
 use Prim.Native.Nat.{ℕ, zero, suc, ◌+◌, ◌*◌, ◌^◌, ◌≤◌, ◌<◌}
@@ -16,9 +16,9 @@ use Rattle.kinds.specs.Bytes.{all}
 use Rattle.kinds.specs.Kind.{sized, unsized, Kind, elementary, tuple, array, Kinds, no_kind, more_kinds, is_kind, are_kinds}
 use Rattle.encoding.specs.Dynamic.{is_dynamic, head_length, heads_length}
 use Rattle.encoding.specs.Words.{is_byte, word}
-use Rattle.encoding.specs.Values.{Value, members, Values, no_value, more_values, count, every, most_elements, members_of, is_value, are_values}
+use Rattle.encoding.specs.Values.{Value, members, Values, no_value, more_values, count, every, most_elements, is_value, are_values}
 use Rattle.encoding.specs.Encoding.{Part, part, heads_long, assembled, part_each, values_in, enc, parts}
-use Rattle.encoding.specs.Judge.{be_value, Slot, slot, word_at, has_word, group, end_of, slots, ends_at, is_encoding}
+use Rattle.encoding.specs.Judge.{be_value, slot, word_at, has_word, group, end_of, slots, ends_at, is_encoding}
 use Rattle.kinds.proofs.Logic.{both, left, right}
 use Rattle.encoding.proofs.Words.{word-length, word_read, word-written}
 use Rattle.encoding.proofs.Stands.{Stands, stands_join, stands-front, stands-rest, stands-take, taken, Exact, swap, when-some, bytes-at, long-at}

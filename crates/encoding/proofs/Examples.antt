@@ -7,7 +7,6 @@ use mathlib.Core.List.{List, [], ◌∷◌, ◌++◌, map}
 use Prim.Native.Nat.{ℕ, ◌+◌, ◌*◌, ◌-◌, ◌^◌}
 use Prim.Native.String.{String}
 use lib.Dec.{ltb}
-use lib.ListN.{replicate}
 use Rattle.kinds.specs.Bytes.{ascii}
 use Rattle.kinds.specs.Kind.{bits, octets, uint, int, fixed_bytes, bool, bytes, string, sized, unsized, Kind, elementary, tuple, array, Kinds, no_kind, more_kinds}
 use Rattle.encoding.specs.Dynamic.{is_dynamic, is_open_ended, static_length, head_length, head_lengths, heads_length}

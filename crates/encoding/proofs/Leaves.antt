@@ -2,26 +2,25 @@
 -- Assumes nothing.
 use mathlib.Core.Path.{◌≡◌, refl, sym, ◌∙◌, ap}
 use mathlib.Core.Bool.{Bool, true, false, ◌&&◌, ◌||◌, false≢true, or-true}
-use mathlib.Core.List.{List, [], ◌∷◌, ◌++◌}
-use mathlib.Core.Option.{Option, none, some}
-use Prim.Native.Nat.{ℕ, zero, suc, ◌+◌, ◌*◌, ◌-◌, ◌/◌, ◌^◌, ◌≤◌, ◌<◌}
+use mathlib.Core.List.{List, ◌++◌}
+use mathlib.Core.Option.{some}
+use Prim.Native.Nat.{ℕ, suc, ◌+◌, ◌*◌, ◌-◌, ◌^◌, ◌≤◌, ◌<◌}
 use native.Mathlib.Nat.{pow-le-pow_right, lt_of_lt_of_le}
 use native.Mathlib.Omega.{arith}
 use lib.Dec.{leb, ltb, eqb}
 use lib.ListN.{length, take, drop, get_or, replicate, length-append, length-drop, length-replicate, take-append-drop}
 use lib.Seq.{drop_at, length-take-le}
-use borrow.Author.Tests.{ltb-true, lt-ltb, ltb-false, leb-true, le-leb, eqb-true, eq-eqb}
+use borrow.Author.Tests.{ltb-true, lt-ltb, leb-true, le-leb, eqb-true, eq-eqb}
 use Rattle.kinds.specs.Bytes.{all}
 use Rattle.kinds.specs.Kind.{bits, octets, is_bit_width, is_byte_length, is_elementary, Elementary, int, uint, fixed_bytes, address, bool, function, bytes, string}
-use Rattle.encoding.specs.Dynamic.{is_open_ended}
 use Rattle.encoding.specs.Words.{is_byte, word, whole_words, padded}
 use Rattle.encoding.specs.Values.{Value, natural, negative, text, members, natural_below, signed_below, text_of, is_elementary_value}
 use Rattle.encoding.specs.Encoding.{bytes_in, integer_word, counted, enc_elementary}
-use Rattle.encoding.specs.Judge.{be_value, all_are, is_word_of, when, word_at, has_word, tested, filled, string_at, leaf}
+use Rattle.encoding.specs.Judge.{be_value, all_are, is_word_of, when, word_at, has_word, tested, string_at, leaf}
 use Rattle.kinds.proofs.Logic.{both, left, right, width-most}
 use Rattle.encoding.proofs.Words.{word-length, word_read, word-written, word_below}
-use Rattle.encoding.proofs.Ranges.{same_test, part_bytes, zeros_below, front_below, sign_repeated, Octets, octets-of}
-use Rattle.encoding.proofs.Stands.{Stands, stands_join, stands-front, stands-rest, stands-take, taken, Exact, when-some, bytes-at, long-at, tested-exact, zeros_only, zeros_zero, padded-long, Padded, filled-exact}
+use Rattle.encoding.proofs.Ranges.{part_bytes, zeros_below, front_below, sign_repeated, octets-of}
+use Rattle.encoding.proofs.Stands.{Stands, stands_join, stands-front, stands-rest, stands-take, taken, Exact, when-some, bytes-at, long-at, tested-exact, zeros_only, zeros_zero, filled-exact}
 
 -- the encodings of an elementary kind
 abbrev pub ElementaryEncoding : Elementary → List ℕ → Type 0

@@ -3,17 +3,17 @@
 use mathlib.Core.Path.{◌≡◌, refl, sym, ◌∙◌, ap, subst}
 use mathlib.Core.Bool.{Bool, true, false, ◌&&◌, and-eq-true_iff}
 use mathlib.Core.List.{List, [], ◌∷◌, ◌++◌}
-use mathlib.Core.Option.{Option, none, some, some-injective}
+use mathlib.Core.Option.{Option, some, some-injective}
 use Prim.Native.Nat.{ℕ, ◌+◌, ◌-◌, ◌≤◌}
 use native.Mathlib.Nat.{add-zero}
 use native.Mathlib.Omega.{arith}
 use lib.Dec.{leb}
-use lib.ListN.{length, take, drop, length-append}
+use lib.ListN.{length, length-append}
 use borrow.Author.Tests.{leb-true, le-leb}
 use Rattle.kinds.specs.Bytes.{same}
 use Rattle.encoding.specs.Words.{word}
 use Rattle.encoding.specs.Encoding.{Part, part, head, tail, head_list, joined, heads, tails, heads_long, assembled}
-use Rattle.encoding.specs.Judge.{given, when, Slot, slot, word_at, has_word, follow, group}
+use Rattle.encoding.specs.Judge.{Slot, slot, word_at, has_word, follow, group}
 use Rattle.kinds.proofs.Logic.{same_equal, same_self}
 use Rattle.encoding.proofs.Words.{word-length}
 use Rattle.encoding.proofs.Stands.{Stands, stands_nil, stands_join, stands-front, stands-rest, stands-take, taken, Exact, when-some, given-some}

@@ -1,17 +1,17 @@
 -- Static kinds stand one behind the other.
 -- Assumes nothing.
 use mathlib.Core.Path.{◌≡◌, refl, sym, ◌∙◌, ap}
-use mathlib.Core.Bool.{Bool, true, false, ◌&&◌, ◌||◌, and-eq-true_iff, false≢true}
-use mathlib.Core.List.{List, [], ◌∷◌}
-use mathlib.Core.Option.{Option, none, some, none-ne-some, some-injective}
-use Prim.Native.Nat.{ℕ, zero, suc, ◌+◌, ◌*◌, ◌≤◌, ◌<◌}
+use mathlib.Core.Bool.{Bool, true, false, ◌&&◌, and-eq-true_iff, false≢true}
+use mathlib.Core.List.{List}
+use mathlib.Core.Option.{Option, none, some, some-injective}
+use Prim.Native.Nat.{ℕ, zero, suc, ◌+◌, ◌*◌, ◌≤◌}
 use native.Mathlib.Nat.{suc-mul, zero-mul}
 use native.Mathlib.Omega.{arith}
 use lib.Dec.{leb}
 use lib.ListN.{length, replicate}
 use borrow.Author.Tests.{leb-true, le-leb}
 use Rattle.kinds.specs.Kind.{Elementary, int, uint, fixed_bytes, address, bool, function, bytes, string, sized, unsized, Kind, elementary, tuple, array, Kinds, no_kind, more_kinds}
-use Rattle.encoding.specs.Dynamic.{is_open_ended, is_dynamic, any_dynamic, static_length, static_lengths, head_length, heads_length}
+use Rattle.encoding.specs.Dynamic.{is_open_ended, is_dynamic, any_dynamic, static_length, head_length, heads_length}
 use Rattle.encoding.specs.Judge.{is_word_of, given, when, repeated, Slot, slot, word_at, has_word, tested, leaf, follow, group, end_of, slots, in_row}
 use Rattle.encoding.proofs.Stands.{when-some, given-some}
 use Rattle.encoding.proofs.Lengths.{head-static, no_dynamic, all-static}

@@ -8,7 +8,6 @@ use native.Mathlib.Omega.{arith}
 use lib.ListN.{length, take, drop, length-append, length-drop}
 use lib.Seq.{take_at, drop_at, drop-drop}
 use borrow.Author.Tests.{leb-true}
-use Rattle.kinds.specs.Bytes.{all}
 use Rattle.kinds.specs.Kind.{bits, octets, Elementary, int, uint, fixed_bytes, address, bool, function, bytes, string, Suffix, sized, unsized}
 use Rattle.kinds.proofs.Logic.{left, right}
 use Rattle.model.specs.declared.Sort.{Sort}

@@ -1,4 +1,6 @@
 // How far the kinds of a record reach: whether they are dynamic, and how long their heads are, as far as lengths are told apart.
+#![tactic(auto)]
+
 ghost use Rattle.std.specs.Prelude.{◌≡◌, ◌*◌, ◌≤◌};
 ghost use Rattle.record.specs.Encoded.{SomeFields, SomeKind};
 ghost use Rattle.words.specs.Places.{capped};
@@ -33,7 +35,7 @@ const OVER: usize = 65537;
 const WORD: usize = 32;
 
 // Whether a kind is dynamic, and how long its head is; of several kinds, whether one is, and how long their heads are together.
-#[derive(Drop)]
+#[derive(Clone, Copy)]
 pub struct Extent {
     pub dynamic: bool,
     pub head: usize,

@@ -1,5 +1,7 @@
 // The field, tuple and list readers: one pass over the text into a buffer of the caller's that has room. What is read is written where it stands
 // in the record; what a failed reading leaves behind its place is not told.
+#![tactic(auto)]
+
 ghost use Rattle.std.specs.Prelude.{◌≡◌, ◌+◌, ◌≤◌, ◌<◌, length};
 ghost use Rattle.fields.specs.Words.{EndIs, Looked, mark_of, location_of, name_at, NamedIs};
 ghost use Rattle.fields.specs.Scratch.{Closes, BracketIs, InsideIs, Room, Grows, located_by, leaf_of, Put, NamedRoom, NamedPut, Short, longer_by, field_of, tuple_of, list_of, ItemIs};
@@ -17,7 +19,7 @@ pub fn word_end(s: &[u8], a: usize) -> usize
 }
 
 // What stands behind any blanks, and where; the byte is 256 at the end.
-#[derive(Drop)]
+#[derive(Clone, Copy)]
 pub struct Seen {
     pub at: usize,
     pub byte: u16,
@@ -73,7 +75,7 @@ fn location(w: &[u8]) -> usize
 }
 
 // What stands behind a kind: a mark and a name, both optional, and the place behind them.
-#[derive(Drop)]
+#[derive(Clone, Copy)]
 pub struct Named {
     pub mark: usize,
     pub from: usize,
@@ -117,7 +119,7 @@ fn name(from: usize, to: usize, at: usize, mark: usize) -> Named
 
 // What a reading answers: the place behind what was read and how many bytes its record takes; why it fails and where; or where one tuple too
 // many opens.
-#[derive(Drop)]
+#[derive(Clone, Copy)]
 pub enum Read {
     Got { next: usize, len: usize },
     Bad { refusal: Refusal, at: usize },
@@ -149,7 +151,7 @@ fn close(s: &[u8], at: usize) -> Read
 }
 
 // A tuple's suffix, with the place behind it.
-#[derive(Drop)]
+#[derive(Clone, Copy)]
 pub enum Bracket {
     Sized { n: u64, next: usize },
     Unsized { next: usize },
@@ -190,7 +192,7 @@ fn in_brackets(s: &[u8], b: usize) -> Bracket
 }
 
 // The place behind what was read, and how many bytes its records take.
-#[derive(Drop)]
+#[derive(Clone, Copy)]
 pub struct Grown {
     pub next: usize,
     pub len: usize,
@@ -298,7 +300,7 @@ fn longer(n: usize, r: Read) -> Read
 
 // A field with a `,` behind it: where the next field is read, and where the list closes if that fails; a field with the `)` behind it; or the
 // end of a list, whatever that is.
-#[derive(Drop)]
+#[derive(Clone, Copy)]
 pub enum Item {
     More {
         field: usize,

@@ -1,4 +1,6 @@
 // Whole declarations written out: names, mark words and the walk through tuples. Kinds without names are written by abi's writers.
+#![tactic(auto)]
+
 ghost use Rattle.std.specs.Prelude.{◌≡◌, ◌+◌, ◌≤◌, length};
 ghost use Rattle.model.specs.Record.{decode};
 ghost use Rattle.model.specs.Written.{mark_text, name_text};

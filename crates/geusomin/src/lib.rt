@@ -1,4 +1,6 @@
 // The C interface, one function a call; include/geusomin.h declares them. To C a slice is a pointer and a length.
+#![tactic(auto)]
+
 ghost use Rattle.std.specs.Prelude.{◌≡◌, length};
 ghost use Rattle.model.specs.Answer.{writes, said, outcome, after};
 ghost use Rattle.model.specs.Calls.{read_output, kind_output, canonical_output, signature_output, kind_text_output, name_output};

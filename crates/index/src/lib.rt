@@ -1,5 +1,7 @@
 // Sheet records that anyone may hand in: whether one is well formed, with the fingerprint and the place of each declaration; and the search for a
 // function by its canonical text.
+#![tactic(auto)]
+
 ghost use Rattle.std.specs.Prelude.{◌≡◌, not};
 ghost use Rattle.model.specs.Record.{is_absent, decode};
 ghost use Rattle.model.specs.Find.{find_output};
@@ -29,7 +31,7 @@ const LONGEST_TEXT: usize = 81920;
 pub const USUAL_TEXT: usize = 8192;
 
 // What lent bytes are: a sheet of so many declarations, or no well-formed sheet.
-#[derive(Drop)]
+#[derive(Clone, Copy)]
 pub enum Indexed {
     Sheet { count: usize },
     IllFormed,

@@ -4,7 +4,6 @@ use mathlib.Core.Path.{◌≡◌, refl, sym, ◌∙◌, ap}
 use mathlib.Core.Logic.{inl, inr, ⊎_elim}
 use mathlib.Core.Bool.{Bool, true, false, ◌&&◌, and-true, and-false, and_assoc, and_comm}
 use mathlib.Core.List.{List}
-use mathlib.Core.Option.{none, some}
 use Prim.Native.Nat.{ℕ, zero, suc, ◌+◌, ◌*◌, ◌-◌, ◌≤◌, ◌<◌}
 use native.Mathlib.Omega.{arith}
 use lib.Dec.{leb, eqb}
@@ -23,7 +22,7 @@ use Rattle.extent.specs.Walks.{tree_of}
 use Rattle.judge.specs.declared.Step.TheVariants as step
 use Rattle.judge.specs.declared.Two.{Two}
 use Rattle.judge.specs.Fits.{fits, part, Data, SomeDynamic, FitsKind}
-use Rattle.judge.specs.Steps.{Down, Inside, SizedStep, Heads, EndSays, Sorted}
+use Rattle.judge.specs.Steps.{Inside, SizedStep, Heads, EndSays, Sorted}
 use Rattle.judge.proofs.Slices.{kind-valid, end-inside, slice_fits, part_data}
 use Rattle.judge.proofs.Saying.{eqb-turned, goes_on, stops, given-same, when-ends}
 

@@ -3,7 +3,6 @@
 use mathlib.Core.Path.{◌≡◌, refl, sym, ◌∙◌, ap, subst}
 use mathlib.Core.Bool.{Bool, true, false, ◌&&◌, false≢true}
 use mathlib.Core.List.{List, [], ◌∷◌}
-use mathlib.Core.Option.{none, some}
 use Prim.Native.Nat.{ℕ, ◌+◌, ◌-◌, ◌/◌, ◌≤◌, ◌<◌}
 use native.Mathlib.Omega.{arith}
 use lib.Dec.{leb, eqb}
@@ -31,7 +30,7 @@ use Rattle.static_kinds.specs.Places.{Place, SomeStatic, ManyEnd}
 use Rattle.judge.specs.declared.Step.{Step}
 use Rattle.judge.specs.declared.Step.TheVariants as step
 use Rattle.judge.specs.Fits.{fits, part, Data, DynamicIs, SomeDynamic, Alone, FitsKind, FitsFields}
-use Rattle.judge.specs.Steps.{LastAt, ArrayIs, SomeArray, Down, Inside, ArrayStep, SizedStep, Within, behind, Heads}
+use Rattle.judge.specs.Steps.{LastAt, ArrayIs, SomeArray, Inside, ArrayStep, SizedStep, Within, behind, Heads}
 use Rattle.judge.proofs.Slices.{part-long, part_data, part-whole, part-part, kind-valid, place-ends, slice_fits}
 use Rattle.judge.proofs.Saying.{when-ends}
 use Rattle.judge.proofs.Choosing.{fits-none, fits_over}

@@ -1,5 +1,7 @@
 // Whether call data are the encoding of some values. Each function is handed a part of the data, and tells whether all of it is one value: heads say
 // where parts end. Of an array's elements the one that takes most is left to a loop, so that a call is handed at most half of the part.
+#![tactic(auto)]
+
 ghost use Rattle.std.specs.Prelude.{◌≡◌, ◌≤◌, ◌<◌, length};
 ghost use Rattle.record.specs.Encoded.{SomeFields, SomeKind};
 ghost use Rattle.extent.specs.Walks.{SomeSuffixes};
@@ -44,7 +46,7 @@ fn last_suffix(b: &[u8]) -> usize
 }
 
 // Whether a part is an array is told, or it is if a part of it is one of its elements.
-#[derive(Drop)]
+#[derive(Clone, Copy)]
 enum Step {
     Told(bool),
     Down { from: usize, to: usize },
@@ -69,7 +71,7 @@ fn end_of(d: &[u8], s: usize, h: usize, seam: usize) -> usize
 }
 
 // Two parts, the shorter first.
-#[derive(Drop)]
+#[derive(Clone, Copy)]
 struct Two {
     short: Spot,
     long: Spot,
@@ -229,7 +231,7 @@ fn value(t: &[u8], d: &[u8]) -> bool
 // Tuples.
 
 // Where the next head stands, where the last tail began, and where the kind of its member stands; none has begun where that is empty.
-#[derive(Drop)]
+#[derive(Clone, Copy)]
 struct Open {
     head: usize,
     tail: usize,
@@ -252,7 +254,7 @@ fn closes(b: &[u8], d: &[u8], o: Open, end: usize) -> bool
     value(&b[from..to], &d[tail..end])
 }
 
-#[derive(Drop)]
+#[derive(Clone, Copy)]
 enum Next {
     Go(Open),
     Stop,

@@ -1,5 +1,7 @@
 // The kind call. A text that starts with `(` is scanned, then read by the field reader into an array of the call's own, and what was read is
 // copied if all of it fits; any other text is written as it is read.
+#![tactic(auto)]
+
 ghost use Rattle.std.specs.Prelude.{◌≡◌, false, ◌+◌, ◌≤◌, ◌<◌, length};
 ghost use Rattle.model.specs.Reading.{deepest, longest_text};
 ghost use Rattle.model.specs.Answer.{said, outcome, after};
@@ -24,7 +26,7 @@ const FIELD_FRONT: usize = 14;
 const OPENING: u16 = b'(' as u16;
 
 // How many more tuples may open; or that one too many did.
-#[derive(Drop)]
+#[derive(Clone, Copy)]
 pub enum Openings {
     Left(usize),
     Over,

@@ -1,4 +1,6 @@
 // Bytes in a lent buffer: little-endian numbers, heads of records, copies and insertions. Each function says all that it leaves.
+#![tactic(auto)]
+
 ghost use Rattle.std.specs.Prelude.{◌≡◌, ◌+◌, ◌-◌, ◌≤◌, ◌<◌, length, take, drop};
 ghost use Rattle.model.specs.Layout.{little_endian, le_value};
 ghost use Rattle.layout.specs.Buffer.{put, inserted, shifted, head, front_of};

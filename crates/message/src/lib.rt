@@ -1,4 +1,6 @@
 // The message call: the Display of the Rust's `ParseError`. A line is written into an array of the call's own and copied if all of it fits.
+#![tactic(auto)]
+
 ghost use Rattle.std.specs.Prelude.{◌≡◌, [], ◌∷◌, ◌++◌, ◌+◌, ◌*◌, ◌-◌, ◌≤◌, ◌<◌, leb, length};
 ghost use Rattle.kinds.specs.Bytes.{ascii};
 ghost use Rattle.kinds.specs.Decimal.{decimal};
@@ -242,7 +244,7 @@ fn place(out: &mut [u8], o: usize, s: &[u8], p: usize) -> usize
 }
 
 // The keyword that a call wants, if any.
-#[derive(Drop)]
+#[derive(Clone, Copy)]
 pub enum Sought {
     Word(Keyword),
     Nothing,

@@ -7,7 +7,7 @@ use Rattle.kinds.specs.Bytes.{ascii}
 use Rattle.model.specs.declared.Refusal.TheVariants.{NotWellFormed, NoSuchFunction}
 use Rattle.model.specs.declared.Search.TheVariants.{At, Missing}
 use Rattle.model.specs.Answer.{handed}
-use Rattle.model.specs.Sheet.{line_feed, repeats, has, first_repeat, is_sheet, decode_all, decode_sheet, sheet_output}
+use Rattle.model.specs.Sheet.{line_feed, is_sheet, decode_all, decode_sheet, sheet_output}
 use Rattle.model.specs.Find.{is_sought, search_in, find_output}
 use Rattle.model.proofs.SheetExamples.{sheets}
 

@@ -18,7 +18,6 @@ use Rattle.model.specs.declared.Search.TheVariants.{At, Missing}
 use Rattle.model.specs.Tree.{Declaration}
 use Rattle.model.specs.Layout.{Piece, piece, no_piece, piece_of}
 use Rattle.model.specs.Record.{is_absent, ended, on_piece}
-use Rattle.model.specs.Reading.{keyword_text}
 use Rattle.model.specs.Line.{keyword_in, canonical_text}
 use Rattle.model.specs.Answer.{number}
 use Rattle.model.specs.Sheet.{most_declarations, same_text, repeats, has, first_repeat, is_sheet, sheet_from, decode_all, decode_sheet}

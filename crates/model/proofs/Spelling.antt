@@ -178,7 +178,7 @@ mutual
 
   rest-ascii : (ks : Kinds) (t : List ℕ) → SpellsRest ks t → all is_ascii t ≡ true
   rest-ascii no_kind t w = rw w
-  rest-ascii (more_kinds k ks) t w = rw (w.2, all_append) (both (kind-ascii k w.0 w.3) (rest-ascii ks w.1 w.4))
+  rest-ascii (more_kinds k ks) t w = rw (w.2, all_append is_ascii) (both (kind-ascii k w.0 w.3) (rest-ascii ks w.1 w.4))
 
 -- what begins with `(`
 whole-field : (f : Field) (n m : ℕ) → m ≡ n → all_of n (got f m) ≡ got f 0

@@ -3,7 +3,7 @@
 -- Assumes nothing.
 use mathlib.Core.Path.{◌≡◌, refl, sym, ◌∙◌, ap}
 use mathlib.Core.Logic.{◌↔◌}
-use mathlib.Core.Bool.{Bool, true, false, ◌&&◌}
+use mathlib.Core.Bool.{true}
 use mathlib.Core.List.{List}
 use mathlib.Core.Option.{Option, none, some, none-ne-some, some-injective}
 use Prim.Native.Nat.{ℕ, ◌+◌, ◌*◌, ◌^◌, ◌≤◌, ◌<◌}
@@ -14,7 +14,7 @@ use borrow.Author.Tests.{leb-true, lt-leb}
 use Rattle.kinds.proofs.Logic.{both, left, right}
 use Rattle.model.specs.Tree.{Declaration}
 use Rattle.model.specs.Layout.{Bytes}
-use Rattle.model.specs.Record.{encode, given, on_option, when, is_declaration, well_formed, longest_record, decode_declaration, decode}
+use Rattle.model.specs.Record.{encode, given, on_option, is_declaration, well_formed, longest_record, decode_declaration, decode}
 use Rattle.model.specs.Line.{canonical_text, signature_text}
 use Rattle.model.specs.Full.{full_text, full_output}
 use Rattle.model.specs.Answer.{Output, writes}

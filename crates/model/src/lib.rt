@@ -1,7 +1,8 @@
 // The types of the answers, shared by the definitions and the code. What each case means to the outside is in specs/Answer.antt.
+#![tactic(auto)]
 
 // Why a call refuses. The numbers of documents 01 and 02 are in specs/Answer.antt.
-#[derive(Drop)]
+#[derive(Clone, Copy)]
 pub enum Refusal {
     Eos,
     ExpectOpen,
@@ -31,21 +32,21 @@ pub enum Refusal {
 }
 
 // What a call answers: the length of what it wrote, or why it refuses and where.
-#[derive(Drop)]
+#[derive(Clone, Copy)]
 pub enum Answer {
     Accepted { length: usize },
     Refused { refusal: Refusal, position: usize },
 }
 
 // What the search in a sheet answers: the place of a function, or why there is none; and how many were compared. specs/Find.antt has its numbers.
-#[derive(Drop)]
+#[derive(Clone, Copy)]
 pub enum Search {
     At { place: usize, compared: usize },
     Missing { refusal: Refusal, compared: usize },
 }
 
 // The words that a declaration begins with.
-#[derive(Drop)]
+#[derive(Clone, Copy)]
 pub enum Keyword {
     Function,
     Constructor,
@@ -54,7 +55,7 @@ pub enum Keyword {
 }
 
 // The five reading calls.
-#[derive(Drop)]
+#[derive(Clone, Copy)]
 pub enum Call {
     General,
     Function,
@@ -64,7 +65,7 @@ pub enum Call {
 }
 
 // The sorts of list, by the marks that their fields may have.
-#[derive(Drop)]
+#[derive(Clone, Copy)]
 pub enum Sort {
     Plain,
     Parameter,

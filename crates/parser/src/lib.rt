@@ -1,4 +1,6 @@
 // A declaration, read part by part into scratch: the keyword, the name, the inputs, the words behind them, the outputs and the end.
+#![tactic(auto)]
+
 ghost use Rattle.std.specs.Prelude.{◌≡◌, [], ◌+◌, ◌≤◌, length};
 ghost use Rattle.kinds.specs.Bytes.{same};
 ghost use Rattle.model.specs.Parser.{on_ans, end};
@@ -179,7 +181,7 @@ fn stated_by(k: Keyword, w: &[u8]) -> usize
 }
 
 // What stands behind the inputs: its number, or the one that stands for none, and the place behind it.
-#[derive(Drop)]
+#[derive(Clone, Copy)]
 pub struct Stated {
     pub number: usize,
     pub next: usize,

@@ -1,5 +1,7 @@
 // Whether bytes that anyone may hand in are a record, and how long the texts are of what they say.
 // Lengths of texts are 0 where there is none: no kind has an empty text.
+#![tactic(auto)]
+
 ghost use Rattle.std.specs.Prelude.{◌≡◌, ◌+◌, ◌*◌, ◌-◌, ◌≤◌, ◌<◌, length, take, drop, true, []};
 ghost use Rattle.kinds.specs.Bytes.{is_word};
 ghost use Rattle.kinds.specs.Decimal.{decimal};
@@ -404,14 +406,14 @@ fn kind(t: &[u8], d: usize) -> usize
 }
 
 // A part of the record, from a place up to another.
-#[derive(Drop)]
+#[derive(Clone, Copy)]
 pub struct Spot {
     pub from: usize,
     pub to: usize,
 }
 
 // The same, with the length of the text that it stands for.
-#[derive(Drop)]
+#[derive(Clone, Copy)]
 pub struct Measured {
     pub from: usize,
     pub to: usize,
@@ -420,7 +422,7 @@ pub struct Measured {
 
 // What a record says: where its name and its lists stand, and how long the lists are in brackets; for a field, where its name and its kind
 // stand, and how long its kind is. Only a function has outputs. What each case means is in specs/Says.antt.
-#[derive(Drop)]
+#[derive(Clone, Copy)]
 pub enum Checked {
     Declared {
         keyword: Keyword,

@@ -1,4 +1,6 @@
 // The numbers of refusals, as documents 01 and 02 give them.
+#![tactic(auto)]
+
 ghost use Rattle.std.specs.Prelude.{◌≡◌};
 ghost use Rattle.model.specs.Answer.{number};
 

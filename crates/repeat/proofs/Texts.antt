@@ -13,7 +13,7 @@ use Rattle.kinds.specs.Kind.{Kind, kind_text, canonical}
 use Rattle.model.specs.Layout.{le_value, Bytes}
 use Rattle.model.specs.Tree.{Declaration, kinds_of}
 use Rattle.model.specs.Reading.{deepest}
-use Rattle.model.specs.Record.{encode, encode_fields, on_option}
+use Rattle.model.specs.Record.{encode_fields, on_option}
 use Rattle.model.specs.Line.{canonical_text}
 use Rattle.model.specs.Answer.{writes}
 use Rattle.model.specs.Calls.{canonical_output, or_wrong_sort}
@@ -28,7 +28,7 @@ use Rattle.abi.proofs.Nested.{brackets-long}
 use Rattle.repeat.specs.Pairs.{name_at, RecordOf}
 use Rattle.repeat.specs.Prints.{print, print_text, print_in, OneRecord, TextRoom, TextFront, TextWrote, PrintIs}
 use Rattle.repeat.proofs.Places.{body_at, name-low}
-use Rattle.repeat.proofs.Whole.{code_in, code_is, Named, named-at, constructor-none, name-shape, name-fits, name-long, name-inside, list-long, list_inside, list-is, record_long}
+use Rattle.repeat.proofs.Whole.{code_in, code_is, Named, named-at, constructor-none, name-shape, name-fits, name-long, name-inside, list_inside, list-is, record_long}
 use Rattle.repeat.proofs.Printing.{output-is}
 
 module _ (t : List ℕ) (at : ℕ) (b : List ℕ) (p : TextRoom t at b) where

@@ -1,5 +1,7 @@
 // Whether two declarations have the same keyword and canonical text: their records are walked side by side, and no text is written. And
 // fingerprints of canonical texts, by which most that differ are told apart at once.
+#![tactic(auto)]
+
 ghost use Rattle.std.specs.Prelude.{◌≡◌, ◌≤◌, ◌<◌, eqb, length, take};
 ghost use Rattle.repeat.specs.Pairs.{TwoKinds, KindsSame, TwoLists, ListsSame, TwoNamed, NamedSame, name_at, Two, Repeats};
 ghost use Rattle.repeat.specs.Prints.{mixed, print, any, OneRecord, TextRoom, TextWrote, PrintIs};

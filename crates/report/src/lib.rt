@@ -1,4 +1,6 @@
 // The line that the program `deposit` prints.
+#![tactic(auto)]
+
 ghost use Rattle.std.specs.Prelude.{◌≡◌, ◌++◌, ◌+◌, ◌≤◌, length};
 ghost use Rattle.kinds.specs.Bytes.{ascii};
 ghost use Rattle.kinds.specs.Decimal.{decimal};

@@ -1,5 +1,7 @@
 // Sheets: texts of many declarations, a line each. The lines are read twice: once to see that each reads, how long the records are and that none
 // repeats an earlier one, and once more to write; so a refusal leaves the lent buffer as it was, and no scratch holds the whole sheet.
+#![tactic(auto)]
+
 ghost use Rattle.std.specs.Prelude.{◌+◌, ◌-◌, ◌≤◌, ◌<◌, ◌≡◌, eqb, length};
 ghost use Rattle.model.specs.Answer.{said, outcome, after};
 ghost use Rattle.repeat.specs.Prints.{any};
@@ -27,7 +29,7 @@ const HEAD: usize = 6;
 
 // What is known of the lines that were read: how many declarations they say, how long their records are together, the line of the 513th and the
 // line of the first repeat, each 0 where there is none.
-#[derive(Drop)]
+#[derive(Clone, Copy)]
 pub struct Seen {
     pub count: usize,
     pub total: usize,
@@ -35,13 +37,13 @@ pub struct Seen {
     pub repeated: usize,
 }
 
-#[derive(Drop)]
+#[derive(Clone, Copy)]
 pub enum Taken {
     More(Seen),
     Refused { refusal: Refusal, position: usize },
 }
 
-#[derive(Drop)]
+#[derive(Clone, Copy)]
 pub enum Surveyed {
     Read(Seen),
     Refused {

@@ -1,23 +1,25 @@
 // "BitWidth and ByteLength remain two sorts of number": each is made by its check alone.
+#![tactic(auto)]
+
 ghost use Rattle.std.specs.Prelude.{◌≡◌};
 ghost use Rattle.kinds.specs.Kind.{is_bit_width, is_byte_length};
 ghost use Rattle.sizes.specs.Checked.{checked, width_number, length_number, width_of, length_of};
 
 // The M of `int<M>` and `uint<M>`.
-#[derive(Drop)]
+#[derive(Clone, Copy)]
 pub struct BitWidth(u32);
 
 // The M of `bytes<M>`.
-#[derive(Drop)]
+#[derive(Clone, Copy)]
 pub struct ByteLength(usize);
 
-#[derive(Drop)]
+#[derive(Clone, Copy)]
 pub enum CheckedWidth {
     Valid(BitWidth),
     Invalid,
 }
 
-#[derive(Drop)]
+#[derive(Clone, Copy)]
 pub enum CheckedLength {
     Valid(ByteLength),
     Invalid,

@@ -1,4 +1,6 @@
 // Static kinds in call data: where values end that begin at a place, by the records of their kinds. A place behind the data stands for none.
+#![tactic(auto)]
+
 ghost use Rattle.static_kinds.specs.Places.{Place, SomeSized, CopiesAre, SomeLeaf, LeafEnds, SomeBase, BaseEnds, RunEnds, SomeStatic, ManyEnd, SomeRow, RowEnds};
 
 // A record begins with its length in four bytes and its kind in two.

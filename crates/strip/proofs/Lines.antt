@@ -1,24 +1,24 @@
 -- A canonical text, or a signature, with anything behind it is what a strip begins with.
 -- Assumes nothing.
 use mathlib.Core.Path.{◌≡◌, refl, sym, ◌∙◌, ap}
-use mathlib.Core.Bool.{Bool, true, false, false≢true}
+use mathlib.Core.Bool.{true, false, false≢true}
 use mathlib.Core.List.{List, [], ◌∷◌, ◌++◌, append_assoc}
 use mathlib.Core.Option.{Option, none, some}
-use Prim.Native.Nat.{ℕ, zero, suc, ◌+◌, ◌-◌}
+use Prim.Native.Nat.{ℕ, suc, ◌+◌, ◌-◌}
 use native.Mathlib.Omega.{arith}
 use lib.Dec.{eqb}
 use lib.ListN.{length, drop, length-append}
 use borrow.Author.Tests.{ne_eqb}
 use Rattle.kinds.specs.Bytes.{ascii, lparen, rparen, comma, lbracket, rbracket, all, is_word_byte, is_word}
 use Rattle.kinds.specs.Decimal.{decimal}
-use Rattle.kinds.specs.Kind.{Elementary, Suffix, sized, unsized, Kind, elementary, tuple, array, Kinds, no_kind, more_kinds, elementary_text, suffix_text, kind_text, list_text, rest_text, Prototype, canonical}
+use Rattle.kinds.specs.Kind.{Suffix, sized, unsized, Kind, elementary, tuple, array, Kinds, no_kind, more_kinds, elementary_text, suffix_text, kind_text, list_text, rest_text, Prototype, canonical}
 use Rattle.kinds.specs.Signatures.{Signature, signature}
 use Rattle.kinds.proofs.Logic.{left, right}
 use Rattle.kinds.proofs.Decimal.{decimal-word}
 use Rattle.kinds.proofs.Joined.{elementary-word}
 use Rattle.model.specs.Text.{word_length}
 use Rattle.model.proofs.Scans.{word-written}
-use Rattle.strip.specs.Strip.{colon, behind, open_after, or_closed, closing, brackets, word_brackets, next_line, outputs, line_outputs, next_signature}
+use Rattle.strip.specs.Strip.{behind, or_closed, closing, brackets, next_line, outputs, next_signature}
 
 pub behind-behind : (m n : ℕ) (o : Option ℕ) → behind m (behind n o) ≡ behind (m + n) o
 behind-behind m n none = refl

@@ -2,11 +2,11 @@
 -- Assumes nothing.
 use mathlib.Core.Path.{◌≡◌, refl, sym, ◌∙◌, ap}
 use mathlib.Core.Bool.{Bool, true, false, cond}
-use mathlib.Core.List.{List, [], ◌∷◌}
-use mathlib.Core.Option.{Option, none, some}
+use mathlib.Core.List.{List}
+use mathlib.Core.Option.{none, some}
 use Prim.Native.Nat.{ℕ, zero, suc, ◌+◌, ◌-◌, ◌≤◌, ◌<◌}
 use native.Mathlib.Omega.{arith}
-use native.Mathlib.Numerals.{add-one, sub-one}
+use native.Mathlib.Numerals.{add-one}
 use lib.Dec.{eqb}
 use lib.ListN.{length, drop, get_or, drop_of_length-le}
 use lib.Seq.{drop-cons}
@@ -15,7 +15,7 @@ use Rattle.kinds.specs.Bytes.{lparen, rparen}
 use Rattle.model.specs.Text.{word_length}
 use Rattle.strip.specs.declared.Piece.{Piece}
 use Rattle.strip.specs.declared.Piece.TheVariants.{Length, Nothing}
-use Rattle.strip.specs.Strip.{colon, behind, open_after, or_closed, closing, brackets, word_brackets, next_line, outputs, line_outputs, next_signature, piece_length}
+use Rattle.strip.specs.Strip.{colon, behind, open_after, or_closed, closing, brackets, word_brackets, next_line, outputs, next_signature, piece_length}
 use Rattle.strip.proofs.Lines.{behind-behind}
 
 -- one byte

@@ -1,9 +1,11 @@
 // A strip of film taken apart: how long the line, or the signature, is that the rest of a strip begins with.
+#![tactic(auto)]
+
 ghost use Rattle.std.specs.Prelude.{◌≡◌, ◌≤◌, ◌<◌, length, drop};
 ghost use Rattle.strip.specs.Strip.{behind, open_after, brackets, next_line, outputs, next_signature, piece_length};
 
 // The length of a piece, or that there is none.
-#[derive(Drop)]
+#[derive(Clone, Copy)]
 pub enum Piece {
     Length { length: usize },
     Nothing,

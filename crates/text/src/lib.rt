@@ -1,4 +1,6 @@
 // Scanning texts: bytes, characters, blanks, words, runs and numbers. A scanner is handed a part of the text and answers a length.
+#![tactic(auto)]
+
 ghost use Rattle.std.specs.Prelude.{◌≡◌, ◌+◌, ◌*◌, ◌/◌, ◌≤◌, ◌<◌, true, eqb, length, take, drop, ◌||◌};
 ghost use Rattle.std.proofs.Math.Option.{some};
 ghost use Rattle.std.specs.Int.Count.{count_trailing_zeros};
@@ -220,7 +222,7 @@ fn tails(k: usize, v: u32, t: &[u8]) -> u32
 }
 
 // A character by its code point and length; the length is 0 where there is none.
-#[derive(Drop)]
+#[derive(Clone, Copy)]
 pub struct Char {
     pub code: u32,
     pub len: usize,
@@ -470,7 +472,7 @@ pub fn run(t: &[u8]) -> usize
 // Numbers.
 
 // A number that may be absent.
-#[derive(Drop)]
+#[derive(Clone, Copy)]
 pub enum Maybe {
     Value(u64),
     Absent,

@@ -1,4 +1,6 @@
 // The comparison of byte strings as a C function, for the test that times it (tests/timed). The delivered library does not have it.
+#![tactic(auto)]
+
 ghost use Rattle.std.specs.Prelude.{◌≡◌, cond};
 ghost use Rattle.kinds.specs.Bytes.{same};
 

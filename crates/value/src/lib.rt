@@ -1,4 +1,6 @@
 // Kinds as `ValueKind::from_str` reads them, written as records.
+#![tactic(auto)]
+
 ghost use Rattle.std.specs.Prelude.{◌≡◌, ◌+◌, ◌≤◌, ◌<◌, length, drop};
 ghost use Rattle.model.specs.KindText.{elementary_of, peel};
 ghost use Rattle.value.specs.Peeling.{LastIs, BracketAt, PeelIs};
@@ -16,7 +18,7 @@ use sizes::{BitWidth, ByteLength, CheckedLength, CheckedWidth};
 use text::Maybe;
 
 // A kind that holds no kind.
-#[derive(Drop)]
+#[derive(Clone, Copy)]
 pub enum Base {
     Int(BitWidth),
     Uint(BitWidth),
@@ -29,7 +31,7 @@ pub enum Base {
 }
 
 // What a text without suffixes is read as.
-#[derive(Drop)]
+#[derive(Clone, Copy)]
 pub enum Spelled {
     Kind(Base),
     Refused(Refusal),
@@ -124,7 +126,7 @@ fn elementary(t: &[u8]) -> Spelled
 // Suffixes.
 
 // A place that may be missing.
-#[derive(Drop)]
+#[derive(Clone, Copy)]
 pub enum Place {
     At(usize),
     Nowhere,
@@ -147,7 +149,7 @@ fn last_bracket(t: &[u8]) -> Place
 }
 
 // A suffix at the end of a text, and the place of its `[`.
-#[derive(Drop)]
+#[derive(Clone, Copy)]
 pub enum Peeled {
     Sized { at: usize, n: u64 },
     Unsized { at: usize },
@@ -190,7 +192,7 @@ fn peel(t: &[u8]) -> Peeled
 }
 
 // The kind of a run: its base, where its suffixes begin, and how many bytes their records take.
-#[derive(Drop)]
+#[derive(Clone, Copy)]
 pub enum RunKind {
     Read { base: Base, from: usize, len: usize },
     Refused(Refusal),
@@ -290,7 +292,7 @@ fn next_shut(t: &[u8], from: usize) -> usize
 }
 
 // A place in the text, and one in the buffer.
-#[derive(Drop)]
+#[derive(Clone, Copy)]
 pub struct Cursor {
     pub at: usize,
     pub o: usize,

@@ -58,6 +58,7 @@ length_bounds m h = (leb-true 1 m (left _ h), leb-true m 32 (right (leb 1 m) h))
 -- a part of a word
 drop-take : (p n : ℕ) (s : List ℕ) → p ≤ n → drop p (take n s) ≡ take (n - p) (drop p s)
 drop-take zero n s h = ap (λ m. take m s) (sym (sub-zero n))
+drop-take (suc p) zero s h = elim h [ ]
 drop-take (suc p) (suc n) [] h = sym (take-nil (suc n - suc p))
 drop-take (suc p) (suc n) (c ∷ s) h = let less : suc n - suc p ≡ n - p = omega arith in rw less (drop-take p n s (omega arith))
 

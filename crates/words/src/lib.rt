@@ -1,4 +1,6 @@
 // Words in call data: whether what stands at a place is as the encoder sets it, and where it ends. Nothing here knows of records.
+#![tactic(auto)]
+
 ghost use Rattle.std.specs.Prelude.{◌≡◌, true, ◌&&◌, ◌+◌, ◌-◌, ◌/◌, ◌≤◌, ◌<◌, leb, length, take, drop};
 ghost use Rattle.kinds.specs.Bytes.{same};
 ghost use Rattle.kinds.specs.Kind.{bits, octets, is_bit_width, is_byte_length, int, uint, fixed_bytes, address, bool, function};

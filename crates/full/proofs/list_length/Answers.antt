@@ -1,0 +1,5 @@
+use Rattle.full.proofs.Lines.{list-is}
+use Rattle.full.proofs.list_length.Goals as goal
+
+pub returns : goal.returns
+returns c = list-is _ _ c.requires _ c.extra.ensures

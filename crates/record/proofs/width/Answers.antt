@@ -1,0 +1,16 @@
+use Rattle.sizes.proofs.Checks.{width_small}
+use Rattle.record.proofs.Lengths.{lengths}
+use borrow.Author.Rules.{rules}
+use Rattle.record.proofs.width.Goals as goal
+
+pub small_length-requires : goal.small_length-requires
+small_length-requires c = search (rules, width_small)
+
+pub returns-in-Valid : goal.returns-in-Valid
+returns-in-Valid c = search (rules, lengths)
+
+pub returns-in-Invalid : goal.returns-in-Invalid
+returns-in-Invalid c = search (rules, lengths)
+
+pub returns : goal.returns
+returns c = search (rules, lengths)

@@ -1,0 +1,18 @@
+use borrow.Author.Rules.{rules}
+use Rattle.sampler.proofs.Counts.{counting}
+use Rattle.sampler.proofs.kinds_of.Goals as goal
+
+pub returns-in-1 : goal.returns-in-1
+returns-in-1 c = search (rules, counting)
+
+pub returns-in-2 : goal.returns-in-2
+returns-in-2 c = search (rules, counting)
+
+pub returns-in-3 : goal.returns-in-3
+returns-in-3 c = search (rules, counting)
+
+pub returns-in-4 : goal.returns-in-4
+returns-in-4 c = search (rules, counting)
+
+pub returns-in_default : goal.returns-in_default
+returns-in_default c = search (rules, counting)

@@ -1,0 +1,23 @@
+use native.Mathlib.Omega.{arith}
+use borrow.Author.Rules.{rules}
+use mathlib.Core.Path.{sym}
+use Prim.Native.Nat.{◌≤◌}
+use lib.ListN.{length}
+use lib.Seq.{length-take-le}
+use Rattle.sheet.proofs.Befores.{read_fits, two-asked, two-told, two-never}
+use Rattle.sheet.proofs.line_repeats.Goals as goal
+
+pub slice_bounds-other-end : goal.slice_bounds-other-end
+slice_bounds-other-end c = let h = read_fits _ _ _ c.parse_declaration-r.ensures.says _ c.in-Accepted.is in omega (arith, h, c.parse_declaration-r.auto.record)
+
+pub slice_bounds-repeats-end : goal.slice_bounds-repeats-end
+slice_bounds-repeats-end c = let h = read_fits _ _ _ c.parse_declaration-r.ensures.says _ c.in-Accepted.is in let g : c.in-Accepted.length ≤ length c.parse_declaration-r.new.record = omega (arith, h, c.parse_declaration-r.auto.record) in sym (length-take-le _ _ g)
+
+pub repeats-requires : goal.repeats-requires
+repeats-requires c = two-asked _ _ _ _ _ _ c.line_end-e.ensures _ c.parse_declaration-r.ensures.says c.parse_declaration-r.ensures.left _ c.in-Accepted.is c.requires
+
+pub returns-in-Accepted : goal.returns-in-Accepted
+returns-in-Accepted c = two-told _ _ _ _ _ _ c.line_end-e.ensures _ c.parse_declaration-r.ensures.says c.parse_declaration-r.ensures.left _ c.in-Accepted.is _ c.repeats.ensures
+
+pub returns-in-Refused : goal.returns-in-Refused
+returns-in-Refused c = two-never _ _ _ _ _ c.line_end-e.ensures _ c.parse_declaration-r.ensures.says _ _ c.in-Refused.is (search rules)
