@@ -1,10 +1,12 @@
 // The tables of order 8. Standard input has a row a line: `heads`, the room that it is lent (`-`: ample), a declaration; or `data`, the data, a
 // declaration. Each row is printed with the answer to the declaration's record; the file stdout has what the tables say.
 // Data are parts with `,` between them: a number is a word, `x` and hex digits are those bytes, `z` and a number are so many zeros; `-` is none.
+#![tactic(auto)]
+
 ghost use Rattle.std.specs.Prelude.{◌≤◌, length};
 
-use libc::STDIN_FILENO;
 use model::Answer;
+use std::io;
 use tables::{FILL, NO_BYTE};
 use text::Maybe;
 
@@ -148,81 +150,90 @@ fn heads_in(room: usize, record: &[u8], out: &mut [u8]) -> Answer
     calldata::heads(record, &mut out[..room])
 }
 
-fn show_heads(field: &[u8], record: &[u8]) {
+fn show_heads<R: Print>(rt: &R, field: &[u8], record: &[u8]) -> io::Result<()> {
     let mut buffer = [FILL; HEADS];
     let answer = heads_in(count_of(field, HEADS), record, &mut buffer);
-    tables::print_record(answer, &buffer);
+    tables::print_record(rt, answer, &buffer)
 }
 
-fn show_judgement(answer: Answer) {
+fn show_judgement<R: Print>(rt: &R, answer: Answer) -> io::Result<()> {
     match answer {
         Answer::Accepted { length } => {
-            tables::print(b" ok ");
-            tables::print_number(length);
+            tables::print(rt, b" ok ")?;
+            tables::print_number(rt, length)
         }
-        Answer::Refused { refusal, position } => tables::print_refusal(refusal, position, b""),
+        Answer::Refused { refusal, position } => tables::print_refusal(rt, refusal, position, b""),
     }
 }
 
-fn show_data(field: &[u8], record: &[u8]) {
+fn show_data<R: Print>(rt: &R, field: &[u8], record: &[u8]) -> io::Result<()> {
     let mut data = [0; DATA];
     let n = data_of(&mut data, field);
-    show_judgement(calldata::check(record, &data[..n]));
+    show_judgement(rt, calldata::check(record, &data[..n]))
 }
 
-fn show(call: &[u8], field: &[u8], record: &[u8]) {
+fn show<R: Print>(rt: &R, call: &[u8], field: &[u8], record: &[u8]) -> io::Result<()> {
     if text::equal(call, b"heads") {
-        show_heads(field, record);
-        return;
+        return show_heads(rt, field, record);
     }
     if text::equal(call, b"data") {
-        show_data(field, record);
-        return;
+        return show_data(rt, field, record);
     }
-    tables::print(b" no such call");
+    tables::print(rt, b" no such call")
 }
 
 // What is answered to a record that was read; where the declaration was refused, that refusal.
-fn show_read(call: &[u8], field: &[u8], answer: Answer, buffer: &[u8]) {
+fn show_read<R: Print>(
+    rt: &R,
+    call: &[u8],
+    field: &[u8],
+    answer: Answer,
+    buffer: &[u8],
+) -> io::Result<()> {
     match answer {
         Answer::Accepted { length } => {
             if length <= buffer.len() {
-                show(call, field, &buffer[..length]);
+                show(rt, call, field, &buffer[..length])?;
             }
+            Ok(())
         }
-        Answer::Refused { refusal, position } => tables::print_refusal(refusal, position, buffer),
+        Answer::Refused { refusal, position } => tables::print_refusal(
+            rt, refusal, position, buffer,
+        ),
     }
 }
 
-fn row(line: &[u8]) {
+fn row<R: Print>(rt: &R, line: &[u8]) -> io::Result<()> {
     let mut buffer = [FILL; RECORD];
     let at = tables::field_at(line, 2);
     let answer = declaration::parse_declaration(&line[at..], &mut buffer);
-    tables::print(line);
-    tables::print(b" ->");
+    tables::print(rt, line)?;
+    tables::print(rt, b" ->")?;
     show_read(
+        rt,
         tables::field(line, 0),
         tables::field(line, 1),
         answer,
         &buffer,
-    );
-    tables::print(b"\n");
+    )?;
+    tables::print(rt, b"\n")
 }
 
-fn rows(input: &[u8]) {
+fn rows<R: Print>(rt: &R, input: &[u8]) -> io::Result<()> {
     let mut at = 0;
     while at < input.len() {
         let end = tables::find(b'\n', input, at);
-        row(&input[at..end]);
+        row(rt, &input[at..end])?;
         if end == input.len() {
-            return;
+            return Ok(());
         }
         at = end + 1;
     }
+    Ok(())
 }
 
-fn main() {
+fn main(rt: HostRuntime) -> io::Result<()> {
     let mut input = [0; 262144];
-    let n = io::read_full(STDIN_FILENO, &mut input);
-    rows(&input[..n]);
+    let n = tables::read_full(&rt, &mut input)?;
+    rows(&rt, &input[..n])
 }

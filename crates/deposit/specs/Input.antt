@@ -7,4 +7,4 @@ use Rattle.deposit.specs.declared.Input.TheVariants.{Came, Failed}
 -- no more came than there was room for
 abbrev pub Within : Input → ℕ → Type 0
 Within (Came n) room = n ≤ room
-Within Failed room = Unit
+Within (Failed e) room = Unit

@@ -1,9 +1,11 @@
 // Order 1's marks: what texts with `calldata` and `memory` are read as, and which marks and names a record may have. The file stdout has what the
 // documents say of each. It was written by stdout.py, which has the rule of document 02 and knows nothing of this program.
+#![tactic(auto)]
+
 ghost use Rattle.std.specs.Prelude.{◌≤◌, length};
 
-use libc::STDOUT_FILENO;
 use model::Answer;
+use std::io;
 
 // The kinds of record.
 const TUPLE: u8 = 0x9;
@@ -29,7 +31,7 @@ const NOT_STATED: u8 = 2;
 const MARKS: u8 = 5;
 
 // Where a field stands.
-#[derive(Drop)]
+#[derive(Clone, Copy)]
 enum Place {
     Inputs,
     Outputs,
@@ -40,19 +42,19 @@ enum Place {
     Alone,
 }
 
-fn print_number(n: u64) {
-    io::print_decimal(STDOUT_FILENO, n);
+fn print_number<R: Print>(rt: &R, n: u64) -> io::Result<()> {
+    print!(rt; "{n}")
 }
 
-fn print_place(place: Place) {
+fn print_place<R: Print>(rt: &R, place: Place) -> io::Result<()> {
     match place {
-        Place::Inputs => tables::print(b"inputs"),
-        Place::Outputs => tables::print(b"outputs"),
-        Place::Constructor => tables::print(b"constructor"),
-        Place::Tuple => tables::print(b"tuple"),
-        Place::Event => tables::print(b"event"),
-        Place::Error => tables::print(b"error"),
-        Place::Alone => tables::print(b"alone"),
+        Place::Inputs => tables::print(rt, b"inputs"),
+        Place::Outputs => tables::print(rt, b"outputs"),
+        Place::Constructor => tables::print(rt, b"constructor"),
+        Place::Tuple => tables::print(rt, b"tuple"),
+        Place::Event => tables::print(rt, b"event"),
+        Place::Error => tables::print(rt, b"error"),
+        Place::Alone => tables::print(rt, b"alone"),
     }
 }
 
@@ -271,191 +273,236 @@ fn ask_name(record: &[u8]) -> u32 {
 }
 
 // `y` where the record is well formed, `n` where it is not, and `c` for a well-formed constructor, of which there is neither line nor name.
-fn print_verdict(line: u32, name: u32) {
+fn print_verdict<R: Print>(rt: &R, line: u32, name: u32) -> io::Result<()> {
     if line != name {
-        tables::print(b"?");
-        return;
+        return tables::print(rt, b"?");
     }
     match line {
-        0 => tables::print(b"y"),
-        15 => tables::print(b"n"),
-        16 => tables::print(b"c"),
-        _ => tables::print(b"?"),
+        0 => tables::print(rt, b"y"),
+        15 => tables::print(rt, b"n"),
+        16 => tables::print(rt, b"c"),
+        _ => tables::print(rt, b"?"),
     }
 }
 
-fn judge(place: Place, record: &[u8]) {
-    print_verdict(ask_line(place, record), ask_name(record));
+fn judge<R: Print>(rt: &R, place: Place, record: &[u8]) -> io::Result<()> {
+    print_verdict(rt, ask_line(place, record), ask_name(record))
 }
 
-fn try_record(place: Place, mark: u8, word: &[u8], kind: &[u8]) {
+fn try_record<R: Print>(
+    rt: &R,
+    place: Place,
+    mark: u8,
+    word: &[u8],
+    kind: &[u8],
+) -> io::Result<()> {
     let mut out = [0; 128];
     let n = record(place, &mut out, mark, word, kind);
-    judge(place, &out[..n]);
+    judge(rt, place, &out[..n])
 }
 
 // No name and three names, in a word of four letters.
-fn try_names(place: Place, mark: u8, kind: &[u8]) {
-    tables::print(b" ");
-    try_record(place, mark, b"", kind);
-    try_record(place, mark, b"a", kind);
-    try_record(place, mark, b"memory", kind);
-    try_record(place, mark, b"calldata", kind);
+fn try_names<R: Print>(rt: &R, place: Place, mark: u8, kind: &[u8]) -> io::Result<()> {
+    tables::print(rt, b" ")?;
+    try_record(rt, place, mark, b"", kind)?;
+    try_record(rt, place, mark, b"a", kind)?;
+    try_record(rt, place, mark, b"memory", kind)?;
+    try_record(rt, place, mark, b"calldata", kind)
 }
 
 // Each mark, one word behind the other.
-fn row(place: Place, text: &[u8], kind: &[u8]) {
-    print_place(place);
-    tables::print(b" ");
-    tables::print(text);
+fn row<R: Print>(rt: &R, place: Place, text: &[u8], kind: &[u8]) -> io::Result<()> {
+    print_place(rt, place)?;
+    tables::print(rt, b" ")?;
+    tables::print(rt, text)?;
     for mark in 0..MARKS {
-        try_names(place, mark, kind);
+        try_names(rt, place, mark, kind)?;
     }
-    tables::print(b"\n");
+    tables::print(rt, b"\n")
 }
 
-fn rows(place: Place) {
-    row(place, b"bool", b"\x06\0\0\0\x04\0");
-    row(place, b"bytes32", b"\x08\0\0\0\x05\0\x20\0");
-    row(place, b"string", b"\x06\0\0\0\x08\0");
-    row(place, b"()", b"\x06\0\0\0\x09\0");
-    row(place, b"bool[]", b"\x06\0\0\0\x04\0\x06\0\0\0\x0B\0");
+fn rows<R: Print>(rt: &R, place: Place) -> io::Result<()> {
+    row(rt, place, b"bool", b"\x06\0\0\0\x04\0")?;
+    row(rt, place, b"bytes32", b"\x08\0\0\0\x05\0\x20\0")?;
+    row(rt, place, b"string", b"\x06\0\0\0\x08\0")?;
+    row(rt, place, b"()", b"\x06\0\0\0\x09\0")?;
+    row(rt, place, b"bool[]", b"\x06\0\0\0\x04\0\x06\0\0\0\x0B\0")
 }
 
 // Texts.
 
 // Prints a mark and a name if the record is the one with them.
-fn match_name(place: Place, mark: u8, word: &[u8], kind: &[u8], read: &[u8]) {
+fn match_name<R: Print>(
+    rt: &R,
+    place: Place,
+    mark: u8,
+    word: &[u8],
+    kind: &[u8],
+    read: &[u8],
+) -> io::Result<()> {
     let mut out = [0; 128];
     let n = record(place, &mut out, mark, word, kind);
     if text::equal(&out[..n], read) {
-        tables::print(b" ");
-        print_number(mark as u64);
-        tables::print(b" \"");
-        tables::print(word);
-        tables::print(b"\"");
+        tables::print(rt, b" ")?;
+        print_number(rt, mark as u64)?;
+        tables::print(rt, b" \"")?;
+        tables::print(rt, word)?;
+        tables::print(rt, b"\"")?;
     }
+    Ok(())
 }
 
-fn match_names(place: Place, mark: u8, kind: &[u8], read: &[u8]) {
-    match_name(place, mark, b"", kind, read);
-    match_name(place, mark, b"a", kind, read);
-    match_name(place, mark, b"s", kind, read);
-    match_name(place, mark, b"memory", kind, read);
-    match_name(place, mark, b"calldata", kind, read);
+fn match_names<R: Print>(
+    rt: &R,
+    place: Place,
+    mark: u8,
+    kind: &[u8],
+    read: &[u8],
+) -> io::Result<()> {
+    match_name(rt, place, mark, b"", kind, read)?;
+    match_name(rt, place, mark, b"a", kind, read)?;
+    match_name(rt, place, mark, b"s", kind, read)?;
+    match_name(rt, place, mark, b"memory", kind, read)?;
+    match_name(rt, place, mark, b"calldata", kind, read)
 }
 
 // Every mark and name with which the record is the one that was read.
-fn match_record(place: Place, kind: &[u8], read: &[u8]) {
+fn match_record<R: Print>(rt: &R, place: Place, kind: &[u8], read: &[u8]) -> io::Result<()> {
     for mark in 0..MARKS {
-        match_names(place, mark, kind, read);
+        match_names(rt, place, mark, kind, read)?;
     }
+    Ok(())
 }
 
-fn print_read(place: Place, kind: &[u8], answer: Answer, out: &[u8]) {
+fn print_read<R: Print>(
+    rt: &R,
+    place: Place,
+    kind: &[u8],
+    answer: Answer,
+    out: &[u8],
+) -> io::Result<()> {
     match answer {
         Answer::Accepted { length } => {
             if length <= out.len() {
-                match_record(place, kind, &out[..length]);
+                match_record(rt, place, kind, &out[..length])?;
             }
         }
         Answer::Refused { refusal, position } => {
-            tables::print(b" no ");
-            print_number(refusal::number(refusal) as u64);
-            tables::print(b" ");
-            print_number(position as u64);
+            tables::print(rt, b" no ")?;
+            print_number(rt, refusal::number(refusal) as u64)?;
+            tables::print(rt, b" ")?;
+            print_number(rt, position as u64)?;
         }
     }
-    tables::print(b"\n");
+    tables::print(rt, b"\n")
 }
 
 // What the general call reads of a text with one field, at a place and of a kind.
-fn read(text: &[u8], place: Place, kind: &[u8]) {
+fn read<R: Print>(rt: &R, text: &[u8], place: Place, kind: &[u8]) -> io::Result<()> {
     let mut out = [0; 128];
-    tables::print(text);
+    tables::print(rt, text)?;
     let answer = declaration::parse_declaration(text, &mut out);
-    print_read(place, kind, answer, &out);
+    print_read(rt, place, kind, answer, &out)
 }
 
-fn read_string(text: &[u8], place: Place) {
-    read(text, place, b"\x06\0\0\0\x08\0");
+fn read_string<R: Print>(rt: &R, text: &[u8], place: Place) -> io::Result<()> {
+    read(rt, text, place, b"\x06\0\0\0\x08\0")
 }
 
 // Both words in inputs, outputs and a constructor, with a name and without.
-fn words() {
-    read_string(b"function f(string memory)", Place::Inputs);
-    read_string(b"function f(string calldata a)", Place::Inputs);
-    read_string(b"function f() returns (string memory s)", Place::Outputs);
-    read_string(b"function f() returns (string calldata)", Place::Outputs);
-    read_string(b"constructor(string memory a)", Place::Constructor);
-    read_string(b"constructor(string calldata)", Place::Constructor);
+fn words<R: Print>(rt: &R) -> io::Result<()> {
+    read_string(rt, b"function f(string memory)", Place::Inputs)?;
+    read_string(rt, b"function f(string calldata a)", Place::Inputs)?;
+    read_string(
+        rt,
+        b"function f() returns (string memory s)",
+        Place::Outputs,
+    )?;
+    read_string(
+        rt,
+        b"function f() returns (string calldata)",
+        Place::Outputs,
+    )?;
+    read_string(rt, b"constructor(string memory a)", Place::Constructor)?;
+    read_string(rt, b"constructor(string calldata)", Place::Constructor)
 }
 
 // At every sort of kind that admits a data location.
-fn kinds() {
+fn kinds<R: Print>(rt: &R) -> io::Result<()> {
     read(
+        rt,
         b"function f(bytes calldata)",
         Place::Inputs,
         b"\x06\0\0\0\x07\0",
-    );
+    )?;
     read(
+        rt,
         b"function f(function[1] memory)",
         Place::Inputs,
         b"\x06\0\0\0\x06\0\x0E\0\0\0\x0A\0\x01\0\0\0\0\0\0\0",
-    );
+    )?;
     read(
+        rt,
         b"function f((uint)memory)",
         Place::Inputs,
         b"\x1C\0\0\0\x09\0\x16\0\0\0\x10\0\0\0\x06\0\0\0\x11\0\x08\0\0\0\x02\0\0\x01",
-    );
-    read(b"function f(() memory)", Place::Inputs, b"\x06\0\0\0\x09\0");
+    )?;
+    read(
+        rt,
+        b"function f(() memory)",
+        Place::Inputs,
+        b"\x06\0\0\0\x09\0",
+    )
 }
 
 // A place word behind another is a name, and so is one inside a tuple.
-fn names() {
-    read_string(b"function f(string memory memory)", Place::Inputs);
-    read_string(b"function f(string memory calldata)", Place::Inputs);
+fn names<R: Print>(rt: &R) -> io::Result<()> {
+    read_string(rt, b"function f(string memory memory)", Place::Inputs)?;
+    read_string(rt, b"function f(string memory calldata)", Place::Inputs)?;
     read(
+        rt,
         b"function f((string memory) calldata a)",
         Place::Inputs,
         b"\x20\0\0\0\x09\0\x1A\0\0\0\x10\0\0\0\x0C\0\0\0\x11\0memory\x06\0\0\0\x08\0",
-    );
+    )
 }
 
 // At other kinds and in other lists it is a name at once.
-fn elsewhere() {
+fn elsewhere<R: Print>(rt: &R) -> io::Result<()> {
     read(
+        rt,
         b"function f(uint memory)",
         Place::Inputs,
         b"\x08\0\0\0\x02\0\0\x01",
-    );
+    )?;
     read(
+        rt,
         b"function f(bytes32 calldata)",
         Place::Inputs,
         b"\x08\0\0\0\x05\0\x20\0",
-    );
-    read_string(b"event e(string memory)", Place::Event);
-    read_string(b"error e(string calldata)", Place::Error);
+    )?;
+    read_string(rt, b"event e(string memory)", Place::Event)?;
+    read_string(rt, b"error e(string calldata)", Place::Error)
 }
 
 // What is no name behind it is refused as before.
-fn refused() {
-    read_string(b"function f(address memory a)", Place::Inputs);
-    read_string(b"function f(string storage memory)", Place::Inputs);
-    read_string(b"function f(string memory 1)", Place::Inputs);
+fn refused<R: Print>(rt: &R) -> io::Result<()> {
+    read_string(rt, b"function f(address memory a)", Place::Inputs)?;
+    read_string(rt, b"function f(string storage memory)", Place::Inputs)?;
+    read_string(rt, b"function f(string memory 1)", Place::Inputs)
 }
 
-fn main() {
-    words();
-    kinds();
-    names();
-    elsewhere();
-    refused();
-    rows(Place::Inputs);
-    rows(Place::Outputs);
-    rows(Place::Constructor);
-    rows(Place::Tuple);
-    rows(Place::Event);
-    rows(Place::Error);
-    rows(Place::Alone);
+fn main(rt: HostRuntime) -> io::Result<()> {
+    words(&rt)?;
+    kinds(&rt)?;
+    names(&rt)?;
+    elsewhere(&rt)?;
+    refused(&rt)?;
+    rows(&rt, Place::Inputs)?;
+    rows(&rt, Place::Outputs)?;
+    rows(&rt, Place::Constructor)?;
+    rows(&rt, Place::Tuple)?;
+    rows(&rt, Place::Event)?;
+    rows(&rt, Place::Error)?;
+    rows(&rt, Place::Alone)
 }

@@ -2,10 +2,12 @@
 // digits stand for a byte. Each row is printed with its answer, a sheet's with the line; the file stdout has what the tables say.
 // A call on records is asked about the record that is read of the input, by the kind call for kind_text and by the general call else; full_kind is the
 // full text call asked about a field's record.
+#![tactic(auto)]
+
 ghost use Rattle.std.specs.Prelude.{◌≤◌, length};
 
-use libc::STDIN_FILENO;
 use model::{Answer, Call};
+use std::io;
 use tables::{FILL, NO_BYTE};
 use text::Maybe;
 
@@ -84,7 +86,7 @@ fn unescape(input: &[u8], out: &mut [u8]) -> usize
 }
 
 // What a call does: it reads a text, writes of a record, tells the message of a text, or reads a sheet.
-#[derive(Drop)]
+#[derive(Clone, Copy)]
 enum Does {
     Reads,
     Writes,
@@ -191,104 +193,115 @@ fn sheet_in(room: usize, text: &[u8], out: &mut [u8], line: &mut usize) -> Answe
     sheet::parse_sheet(text, &mut out[..room], line)
 }
 
-fn show_read(room: usize, call: &[u8], text: &[u8])
+fn show_read<R: Print>(rt: &R, room: usize, call: &[u8], text: &[u8]) -> io::Result<()>
     requires { room ≤ 81920 }
 {
     let mut buffer = [FILL; AMPLE];
     let answer = read_in(room, call, text, &mut buffer);
-    tables::print_record(answer, &buffer);
+    tables::print_record(rt, answer, &buffer)
 }
 
-fn show_written(room: usize, call: &[u8], record: &[u8])
+fn show_written<R: Print>(rt: &R, room: usize, call: &[u8], record: &[u8]) -> io::Result<()>
     requires { room ≤ 81920 }
 {
     let mut buffer = [FILL; AMPLE];
     let answer = write_in(room, call, record, &mut buffer);
-    tables::print_text(answer, &buffer);
+    tables::print_text(rt, answer, &buffer)
 }
 
 // What is written of a record that was read; where the text was refused, that refusal.
-fn show_line(room: usize, call: &[u8], answer: Answer, buffer: &[u8])
+fn show_line<R: Print>(
+    rt: &R,
+    room: usize,
+    call: &[u8],
+    answer: Answer,
+    buffer: &[u8],
+) -> io::Result<()>
     requires { room ≤ 81920 }
 {
     match answer {
         Answer::Accepted { length } => {
             if length <= buffer.len() {
-                show_written(room, call, &buffer[..length]);
+                show_written(rt, room, call, &buffer[..length])?;
             }
+            Ok(())
         }
-        Answer::Refused { refusal, position } => tables::print_refusal(refusal, position, buffer),
+        Answer::Refused { refusal, position } => tables::print_refusal(
+            rt, refusal, position, buffer,
+        ),
     }
 }
 
-fn show_line_of(room: usize, call: &[u8], text: &[u8])
+fn show_line_of<R: Print>(rt: &R, room: usize, call: &[u8], text: &[u8]) -> io::Result<()>
     requires { room ≤ 81920 }
 {
     let mut buffer = [FILL; AMPLE];
     let answer = read(call, text, &mut buffer);
-    show_line(room, call, answer, &buffer);
+    show_line(rt, room, call, answer, &buffer)
 }
 
-fn show_message(room: usize, text: &[u8])
+fn show_message<R: Print>(rt: &R, room: usize, text: &[u8]) -> io::Result<()>
     requires { room ≤ 81920 }
 {
     let mut buffer = [FILL; AMPLE];
     let answer = tell_in(room, text, &mut buffer);
-    tables::print_text(answer, &buffer);
+    tables::print_text(rt, answer, &buffer)
 }
 
-fn show_sheet(room: usize, text: &[u8])
+fn show_sheet<R: Print>(rt: &R, room: usize, text: &[u8]) -> io::Result<()>
     requires { room ≤ 81920 }
 {
     let mut buffer = [FILL; AMPLE];
     let mut line = UNTOLD;
     let answer = sheet_in(room, text, &mut buffer, &mut line);
-    tables::print_record(answer, &buffer);
-    tables::print(b" line ");
-    tables::print_number(line);
+    tables::print_record(rt, answer, &buffer)?;
+    tables::print(rt, b" line ")?;
+    tables::print_number(rt, line)
 }
 
-fn show(room: usize, call: &[u8], text: &[u8])
+fn show<R: Print>(rt: &R, room: usize, call: &[u8], text: &[u8]) -> io::Result<()>
     requires { room ≤ 81920 }
 {
     let what = what_of(call);
     match what {
-        Does::Reads => show_read(room, call, text),
-        Does::Writes => show_line_of(room, call, text),
-        Does::Tells => show_message(room, text),
-        Does::Sheets => show_sheet(room, text),
-        Does::Nothing => tables::print(b" no such call"),
+        Does::Reads => show_read(rt, room, call, text),
+        Does::Writes => show_line_of(rt, room, call, text),
+        Does::Tells => show_message(rt, room, text),
+        Does::Sheets => show_sheet(rt, room, text),
+        Does::Nothing => tables::print(rt, b" no such call"),
     }
 }
 
-fn row(line: &[u8]) {
+fn row<R: Print>(rt: &R, line: &[u8]) -> io::Result<()> {
     let mut text = [0; TEXT];
     let at = tables::field_at(line, 2);
     let n = unescape(&line[at..], &mut text);
-    tables::print(line);
-    tables::print(b" ->");
+    tables::print(rt, line)?;
+    tables::print(rt, b" ->")?;
     show(
+        rt,
         room_of(tables::field(line, 1)),
         tables::field(line, 0),
         &text[..n],
-    );
-    tables::print(b"\n");
+    )?;
+    tables::print(rt, b"\n")
 }
 
-fn rows(input: &[u8]) {
+fn rows<R: Print>(rt: &R, input: &[u8]) -> io::Result<()> {
     let mut at = 0;
     while at < input.len() {
         let end = tables::find(b'\n', input, at);
-        row(&input[at..end]);
+        row(rt, &input[at..end])?;
         if end == input.len() {
-            return;
+            return Ok(());
         }
         at = end + 1;
     }
+    Ok(())
 }
 
-fn main() {
+fn main(rt: HostRuntime) -> io::Result<()> {
     let mut input = [0; 262144];
-    let n = io::read_full(STDIN_FILENO, &mut input);
-    rows(&input[..n]);
+    let n = tables::read_full(&rt, &mut input)?;
+    rows(&rt, &input[..n])
 }

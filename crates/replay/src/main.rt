@@ -1,10 +1,12 @@
 // Replays the Rust original's answers through the calls. Standard input is the fixed list that tests/oracle/README.md describes. Prints the first
 // rows that differ, and then how many rows of each call agree and how many differ. "The Rust forgets the word, so records are compared with marks
 // 2 and 3 set to 0."
-ghost use Rattle.std.specs.Prelude.{◌+◌, ◌<◌, ◌≤◌, length};
+#![tactic(auto)]
 
-use libc::{STDIN_FILENO, STDOUT_FILENO};
+ghost use Rattle.std.specs.Prelude.{IfOk, ◌+◌, ◌<◌, ◌≤◌, length};
+
 use model::{Answer, CALLDATA, Call, MEMORY, Refusal, UNMARKED};
+use std::io;
 use text::Maybe;
 
 // The calls of the list by number. Each has two counts, one for each verdict, in a row of 14.
@@ -30,7 +32,7 @@ const DIFFERING: usize = 15;
 // How many of the differing rows are named.
 const NAMED: u64 = 10;
 
-#[derive(Drop)]
+#[derive(Clone, Copy)]
 enum Verdict {
     Agrees,
     Differs,
@@ -38,46 +40,48 @@ enum Verdict {
 
 // Printing.
 
-fn print_number(n: u64) {
-    io::print_decimal(STDOUT_FILENO, n);
+fn print_number<R: Print>(rt: &R, n: u64) -> io::Result<()> {
+    print!(rt; "{n}")
 }
 
-fn print_name(call: usize) {
+fn print_name<R: Print>(rt: &R, call: usize) -> io::Result<()> {
     match call {
-        GENERAL => tables::print(b"general"),
-        FUNCTION => tables::print(b"function"),
-        CONSTRUCTOR => tables::print(b"constructor"),
-        EVENT => tables::print(b"event"),
-        ERROR => tables::print(b"error"),
-        KIND => tables::print(b"kind"),
-        _ => tables::print(b"other"),
+        GENERAL => tables::print(rt, b"general"),
+        FUNCTION => tables::print(rt, b"function"),
+        CONSTRUCTOR => tables::print(rt, b"constructor"),
+        EVENT => tables::print(rt, b"event"),
+        ERROR => tables::print(rt, b"error"),
+        KIND => tables::print(rt, b"kind"),
+        _ => tables::print(rt, b"other"),
     }
 }
 
-fn print_counts(call: usize, counts: &[u64; 16])
+fn print_counts<R: Print>(rt: &R, call: usize, counts: &[u64; 16]) -> io::Result<()>
     requires { call ≤ 6 }
 {
-    print_name(call);
-    tables::print(b": ");
-    print_number(counts[2 * call]);
-    tables::print(b" agree, ");
-    print_number(counts[2 * call + 1]);
-    tables::print(b" differ\n");
+    print_name(rt, call)?;
+    tables::print(rt, b": ")?;
+    print_number(rt, counts[2 * call])?;
+    tables::print(rt, b" agree, ")?;
+    print_number(rt, counts[2 * call + 1])?;
+    tables::print(rt, b" differ\n")
 }
 
-fn print_summary(counts: &[u64; 16]) {
+fn print_summary<R: Print>(rt: &R, counts: &[u64; 16]) -> io::Result<()> {
     let mut call = GENERAL;
     while call <= OTHER {
-        print_counts(call, counts);
+        print_counts(rt, call, counts)?;
         call += 1;
     }
+    Ok(())
 }
 
 // What is left where no line ends any more.
-fn print_rest(held: usize) {
+fn print_rest<R: Print>(rt: &R, held: usize) -> io::Result<()> {
     if held != 0 {
-        tables::print(b"a line has no end, or is longer than the window\n");
+        tables::print(rt, b"a line has no end, or is longer than the window\n")?;
     }
+    Ok(())
 }
 
 // Counting.
@@ -98,23 +102,29 @@ fn slot(verdict: Verdict) -> usize
 }
 
 // Counts a differing row, and names it where few have differed.
-fn count_differing(counts: &mut [u64; 16]) {
+fn count_differing<R: Print>(rt: &R, counts: &mut [u64; 16]) -> io::Result<()> {
     count(counts, DIFFERING);
     if counts[DIFFERING] <= NAMED {
-        tables::print(b"row ");
-        print_number(counts[ROWS]);
-        tables::print(b" differs\n");
+        tables::print(rt, b"row ")?;
+        print_number(rt, counts[ROWS])?;
+        tables::print(rt, b" differs\n")?;
     }
+    Ok(())
 }
 
-fn count_row(counts: &mut [u64; 16], call: usize, verdict: Verdict)
+fn count_row<R: Print>(
+    rt: &R,
+    counts: &mut [u64; 16],
+    call: usize,
+    verdict: Verdict,
+) -> io::Result<()>
     requires { call ≤ 6 }
 {
     count(counts, ROWS);
     count(counts, 2 * call + slot(verdict));
     match verdict {
-        Verdict::Agrees => (),
-        Verdict::Differs => count_differing(counts),
+        Verdict::Agrees => Ok(()),
+        Verdict::Differs => count_differing(rt, counts),
     }
 }
 
@@ -480,40 +490,53 @@ fn replay_text(call: usize, text: &[u8], row: &[u8], out: &mut [u8]) -> Verdict 
 }
 
 // A text that is not decoded whole differs.
-fn replay_row(row: &[u8], text: &mut [u8], out: &mut [u8], counts: &mut [u64; 16]) {
+fn replay_row<R: Print>(
+    rt: &R,
+    row: &[u8],
+    text: &mut [u8],
+    out: &mut [u8],
+    counts: &mut [u64; 16],
+) -> io::Result<()> {
     let call = call_of(tables::field(row, 0));
     let n = decode(tables::field(row, 1), text);
     if is_hex(tables::field(row, 1), &text[..n]) {
-        count_row(counts, call, replay_text(call, &text[..n], row, out));
+        count_row(rt, counts, call, replay_text(call, &text[..n], row, out))
     } else {
-        count_row(counts, call, Verdict::Differs);
+        count_row(rt, counts, call, Verdict::Differs)
     }
 }
 
 // Replays the whole lines of a block, and answers how many bytes they take.
-fn replay_lines(block: &[u8], text: &mut [u8], out: &mut [u8], counts: &mut [u64; 16]) -> usize
-    ensures { result ≤ length block.now }
+fn replay_lines<R: Print>(
+    rt: &R,
+    block: &[u8],
+    text: &mut [u8],
+    out: &mut [u8],
+    counts: &mut [u64; 16],
+) -> io::Result<usize>
+    ensures { IfOk result (λ n. n ≤ length block.now) }
 {
     let mut at = 0;
     while at < block.len() {
         let end = tables::find(b'\n', block, at);
         if end == block.len() {
-            return at;
+            return Ok(at);
         }
-        replay_row(&block[at..end], text, out, counts);
+        replay_row(rt, &block[at..end], text, out, counts)?;
         at = end + 1;
     }
-    at
+    Ok(at)
 }
 
 // Reading.
 
 // Reads on behind the bytes that a window holds, and answers how many it holds then.
-fn refill(window: &mut [u8], held: usize) -> usize
+fn refill<R: Input>(rt: &R, window: &mut [u8], held: usize) -> io::Result<usize>
     requires { held ≤ length window.old }
-    ensures { result ≤ length window.new }
+    ensures { IfOk result (λ n. n ≤ length window.new) }
 {
-    held + io::read_full(STDIN_FILENO, &mut window[held..])
+    let n = tables::read_full(rt, &mut window[held..])?;
+    Ok(held + n)
 }
 
 // Moves the bytes from a place up to an end to the front, and answers how many they are.
@@ -531,41 +554,48 @@ fn keep(window: &mut [u8], from: usize, end: usize) -> usize
 }
 
 // Replays one window's lines, and answers how many bytes are left over.
-fn replay_window(
+fn replay_window<R: Print>(
+    rt: &R,
     window: &mut [u8],
     end: usize,
     text: &mut [u8],
     out: &mut [u8],
     counts: &mut [u64; 16],
-) -> usize
+) -> io::Result<usize>
     requires { end ≤ length window.old }
-    ensures { result ≤ length window.new }
+    ensures { IfOk result (λ n. n ≤ length window.new) }
 {
-    let done = replay_lines(&window[..end], text, out, counts);
-    keep(window, done, end)
+    let done = replay_lines(rt, &window[..end], text, out, counts)?;
+    Ok(keep(window, done, end))
 }
 
 // Replays the list to its end. Nothing says that an input ends, so the turns are counted down from a number that none uses up.
-fn replay_list(window: &mut [u8], text: &mut [u8], out: &mut [u8], counts: &mut [u64; 16]) {
+fn replay_list<R: Input + Print>(
+    rt: &R,
+    window: &mut [u8],
+    text: &mut [u8],
+    out: &mut [u8],
+    counts: &mut [u64; 16],
+) -> io::Result<()> {
     let mut held = 0;
     let mut turns = u64::MAX;
     while 0 < turns {
-        let end = refill(window, held);
+        let end = refill(rt, window, held)?;
         if end == held {
-            print_rest(held);
-            return;
+            return print_rest(rt, held);
         }
-        held = replay_window(window, end, text, out, counts);
+        held = replay_window(rt, window, end, text, out, counts)?;
         turns -= 1;
     }
+    Ok(())
 }
 
 // The longest row has 95,667 bytes, the longest text 4,096 and the longest record 40,960.
-fn main() {
+fn main(rt: HostRuntime) -> io::Result<()> {
     let mut window = [0; 131072];
     let mut text = [0; 4096];
     let mut out = [0; RECORD];
     let mut counts = [0; 16];
-    replay_list(&mut window, &mut text, &mut out, &mut counts);
-    print_summary(&counts);
+    replay_list(&rt, &mut window, &mut text, &mut out, &mut counts)?;
+    print_summary(&rt, &counts)
 }

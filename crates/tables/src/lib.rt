@@ -1,8 +1,11 @@
 // What the test programs share: the fields of a row, bytes in hex, answers printed, and whether a lent buffer was left alone.
-ghost use Rattle.std.specs.Prelude.{◌≤◌, length};
+#![tactic(auto)]
 
-use libc::STDOUT_FILENO;
+ghost use Rattle.std.specs.Prelude.{IfOk, ◌≤◌, length};
+
 use model::{Answer, Refusal};
+use std::io;
+use std::io::Read;
 
 // What a lent buffer holds beforehand.
 pub const FILL: u8 = 0xA5;
@@ -12,24 +15,26 @@ pub const NO_BYTE: u16 = 256;
 
 // Printing.
 
-pub fn print(bytes: &[u8]) {
-    io::write_all(STDOUT_FILENO, bytes);
+pub fn print<R: Print>(rt: &R, bytes: &[u8]) -> io::Result<()> {
+    rt.write_all(bytes)
 }
 
-pub fn print_number(n: usize) {
-    io::print_decimal(STDOUT_FILENO, n as u64);
+pub fn print_number<R: Print>(rt: &R, n: usize) -> io::Result<()> {
+    print!(rt; "{n}")
 }
 
-pub fn print_byte(byte: u8) {
-    io::print_hex(STDOUT_FILENO, byte as u64, 2);
+// Two hex digits.
+pub fn print_byte<R: Print>(rt: &R, byte: u8) -> io::Result<()> {
+    print!(rt; "{byte:02x}")
 }
 
-fn print_hex(bytes: &[u8]) {
+fn print_hex<R: Print>(rt: &R, bytes: &[u8]) -> io::Result<()> {
     let mut i = 0;
     while i < bytes.len() {
-        print_byte(bytes[i]);
+        print_byte(rt, bytes[i])?;
         i += 1;
     }
+    Ok(())
 }
 
 // Whether the bytes from a place on are those that the buffer held beforehand.
@@ -44,56 +49,81 @@ fn is_kept(buffer: &[u8], from: usize) -> bool {
     true
 }
 
-pub fn print_damage(buffer: &[u8], from: usize) {
+pub fn print_damage<R: Print>(rt: &R, buffer: &[u8], from: usize) -> io::Result<()> {
     if !is_kept(buffer, from) {
-        print(b" damaged");
+        print(rt, b" damaged")?;
     }
+    Ok(())
 }
 
-pub fn print_refusal(refusal: Refusal, position: usize, buffer: &[u8]) {
-    print(b" no ");
-    print_number(refusal::number(refusal) as usize);
-    print(b" ");
-    print_number(position);
-    print_damage(buffer, 0);
+pub fn print_refusal<R: Print>(
+    rt: &R,
+    refusal: Refusal,
+    position: usize,
+    buffer: &[u8],
+) -> io::Result<()> {
+    print(rt, b" no ")?;
+    print_number(rt, refusal::number(refusal) as usize)?;
+    print(rt, b" ")?;
+    print_number(rt, position)?;
+    print_damage(rt, buffer, 0)
 }
 
 // What an accepted call wrote: a record, in hex.
-fn print_output(length: usize, buffer: &[u8]) {
-    print(b" ok ");
-    print_number(length);
+fn print_output<R: Print>(rt: &R, length: usize, buffer: &[u8]) -> io::Result<()> {
+    print(rt, b" ok ")?;
+    print_number(rt, length)?;
     if length <= buffer.len() {
-        print(b" ");
-        print_hex(&buffer[..length]);
+        print(rt, b" ")?;
+        print_hex(rt, &buffer[..length])?;
     }
-    print_damage(buffer, length);
+    print_damage(rt, buffer, length)
 }
 
 // The same of a text.
-fn print_written(length: usize, buffer: &[u8]) {
-    print(b" ok ");
-    print_number(length);
+fn print_written<R: Print>(rt: &R, length: usize, buffer: &[u8]) -> io::Result<()> {
+    print(rt, b" ok ")?;
+    print_number(rt, length)?;
     if length <= buffer.len() {
-        print(b" ");
-        print(&buffer[..length]);
+        print(rt, b" ")?;
+        print(rt, &buffer[..length])?;
     }
-    print_damage(buffer, length);
+    print_damage(rt, buffer, length)
 }
 
 // The answer of a call that writes a record.
-pub fn print_record(answer: Answer, buffer: &[u8]) {
+pub fn print_record<R: Print>(rt: &R, answer: Answer, buffer: &[u8]) -> io::Result<()> {
     match answer {
-        Answer::Accepted { length } => print_output(length, buffer),
-        Answer::Refused { refusal, position } => print_refusal(refusal, position, buffer),
+        Answer::Accepted { length } => print_output(rt, length, buffer),
+        Answer::Refused { refusal, position } => print_refusal(rt, refusal, position, buffer),
     }
 }
 
 // The answer of a call that writes a text.
-pub fn print_text(answer: Answer, buffer: &[u8]) {
+pub fn print_text<R: Print>(rt: &R, answer: Answer, buffer: &[u8]) -> io::Result<()> {
     match answer {
-        Answer::Accepted { length } => print_written(length, buffer),
-        Answer::Refused { refusal, position } => print_refusal(refusal, position, buffer),
+        Answer::Accepted { length } => print_written(rt, length, buffer),
+        Answer::Refused { refusal, position } => print_refusal(rt, refusal, position, buffer),
     }
+}
+
+// Reading.
+
+// Reads until the buffer is full or the input ends, and answers how many bytes it put at the buffer's start. No reader outlives the call: what the
+// system has not handed over yet is there for the next one.
+pub fn read_full<R: Input>(rt: &R, buffer: &mut [u8]) -> io::Result<usize>
+    ensures { IfOk result (λ n. n ≤ length buffer.new) }
+{
+    let mut reader = rt.reader();
+    let mut done = 0;
+    while done < buffer.len() {
+        let n = reader.read(&mut buffer[done..])?;
+        if n == 0 {
+            break;
+        }
+        done += n;
+    }
+    Ok(done)
 }
 
 // Rows.
