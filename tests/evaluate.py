@@ -20,48 +20,43 @@ ANSWERS = TOP / "tests" / "oracle" / "answers.txt"
 ROWS_A_MODULE = 50
 
 HEADER = """-- Answers of the Rust, evaluated by the definitions.
-use mathlib.Core.Path.{_≡_, refl}
-use mathlib.Core.List.{List, [], _∷_}
-use Prim.Native.Nat.{ℕ}
-use Rattle·model.specs.declared.Call.the-variants as call
-use Rattle·model.specs.Answer.{writes, refused, outcome}
-use Rattle·model.specs.Calls.{readOutput, kindOutput, canonicalOutput, signatureOutput, kindTextOutput}
-use Rattle·model.specs.Message.{messageOutput}
-use Rattle·model.proofs.Evaluation.{evaluation}
-use Rattle·evaluated·proofs.proofs.Forgotten.{ofWritten, forgotten}
+use Rattle.std.specs.Prelude.{◌≡◌, refl, List, [], ◌∷◌, ℕ}
+use Rattle.model.specs.declared.Call.TheVariants as call
+use Rattle.model.specs.Answer.{writes, refused, outcome}
+use Rattle.model.specs.Calls.{read_output, kind_output, canonical_output, signature_output, kind_text_output}
+use Rattle.model.specs.Message.{message_output}
+use Rattle.model.proofs.Evaluation.{evaluation}
+use Rattle.evaluated.proofs.Forgotten.{of_written, forgotten}
 """
 
 PLACE_WORDS = (b"calldata", b"memory")
 FORGOTTEN = """-- Records without place words: marks 2 and 3 of a function's or a constructor's own lists are set to 0.
-use mathlib.Core.Bool.{true, false, _||_}
-use mathlib.Core.List.{List}
-use Prim.Native.Nat.{ℕ}
-use lib.Dec.{eqb}
-use Rattle·model.specs.Tree.{Field, field, Fields, noField, moreFields, unmarked, inCalldata, inMemory, Declaration}
-use Rattle·model.specs.Record.{encode, decode}
-use Rattle·model.specs.Answer.{Output, writes, refuses}
-use Rattle·model.specs.Calls.{ofRecord}
+use Rattle.std.specs.Prelude.{true, false, ◌||◌, List, ℕ, eqb}
+use Rattle.model.specs.Tree.{Field, field, Fields, no_field, more_fields, unmarked, in_calldata, in_memory, Declaration}
+use Rattle.model.specs.Record.{encode, decode}
+use Rattle.model.specs.Answer.{Output, writes, refuses}
+use Rattle.model.specs.Calls.{of_record}
 
-abbrev forgetMark : ℕ → ℕ
-forgetMark m = elim (eqb m inCalldata || eqb m inMemory) [ true ↦ unmarked | false ↦ m ]
+abbrev forget_mark : ℕ → ℕ
+forget_mark m = elim (eqb m in_calldata || eqb m in_memory) [ true ↦ unmarked | false ↦ m ]
 
-abbrev forgetMarks : Fields → Fields
-forgetMarks noField = noField
-forgetMarks (moreFields (field m nm b ss) fs) = moreFields (field (forgetMark m) nm b ss) (forgetMarks fs)
+abbrev forget_marks : Fields → Fields
+forget_marks no_field = no_field
+forget_marks (more_fields (field m nm b ss) fs) = more_fields (field (forget_mark m) nm b ss) (forget_marks fs)
 
 abbrev forget : Declaration → Declaration
-forget (Declaration.function m nm ins outs) = Declaration.function m nm (forgetMarks ins) (forgetMarks outs)
-forget (Declaration.constructor m ins) = Declaration.constructor m (forgetMarks ins)
+forget (Declaration.function m nm ins outs) = Declaration.function m nm (forget_marks ins) (forget_marks outs)
+forget (Declaration.constructor m ins) = Declaration.constructor m (forget_marks ins)
 forget (Declaration.event a nm ins) = Declaration.event a nm ins
 forget (Declaration.error nm ins) = Declaration.error nm ins
 
 -- what a call answers to the bytes that another writes
-abbrev pub ofWritten : (List ℕ → Output) → Output → Output
-ofWritten f (writes b) = f b
-ofWritten f (refuses w p) = refuses w p
+abbrev pub of_written : (List ℕ → Output) → Output → Output
+of_written f (writes b) = f b
+of_written f (refuses w p) = refuses w p
 
 abbrev pub forgotten : List ℕ → Output
-forgotten b = ofRecord (decode b) (λ d. writes (encode 4 (forget d)))
+forgotten b = of_record (decode b) (λ d. writes (encode 4 (forget d)))
 """
 
 
@@ -82,26 +77,26 @@ def is_ascii(hexed):
 def claims(row):
     """The equations that a row of the list states."""
     name, text, outcome, *rest = row.split(" ")
-    output = f"kindOutput {numbers(text)}" if name == "kind" else f"readOutput call.{name.capitalize()} {numbers(text)}"
+    output = f"kind_output {numbers(text)}" if name == "kind" else f"read_output call.{name.capitalize()} {numbers(text)}"
     if outcome == "ok":
         record, canonical, signature = rest
         if has_place_word(text):
             written = output
-            yield f"ofWritten forgotten ({written}) ≡ writes {numbers(record)}"
+            yield f"of_written forgotten ({written}) ≡ writes {numbers(record)}"
         else:
             written = f"writes {numbers(record)}"
             yield f"{output} ≡ {written}"
         if canonical != "-":
-            call = "kindTextOutput" if name == "kind" else "canonicalOutput"
-            yield f"ofWritten {call} ({written}) ≡ writes {numbers(canonical)}"
+            call = "kind_text_output" if name == "kind" else "canonical_output"
+            yield f"of_written {call} ({written}) ≡ writes {numbers(canonical)}"
         if signature != "-":
-            yield f"ofWritten signatureOutput ({written}) ≡ writes {numbers(signature)}"
+            yield f"of_written signature_output ({written}) ≡ writes {numbers(signature)}"
     else:
         number, position, message = rest
         yield f"outcome 100000 ({output}) ≡ refused {number} {position}"
         # a text of ASCII has the Rust's very message; the listed differences are about other characters
         if outcome == "no" and message != "-" and is_ascii(text):
-            yield f"messageOutput call.{name.capitalize()} {numbers(text)} ≡ writes {numbers(message)}"
+            yield f"message_output call.{name.capitalize()} {numbers(text)} ≡ writes {numbers(message)}"
 
 
 def sample(count, longest):
@@ -146,7 +141,7 @@ def main():
         (top / "crates" / "evaluated" / "src").mkdir()
         (top / "crates" / "evaluated" / "src" / "lib.rt").write_text("// Theorems only.\n")
         equations = write_modules(proofs, rows)
-        done = subprocess.run(["rt", "check", "evaluated"], cwd=top, capture_output=True, text=True)
+        done = subprocess.run(["rt", "check"], cwd=top / "crates" / "evaluated", capture_output=True, text=True)
         for line in (done.stdout + done.stderr).splitlines():
             if "error" in line or line.startswith("rt: "):
                 print(line)

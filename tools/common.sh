@@ -26,24 +26,30 @@ need() {
 # crates_of NAME: the crate, and those of the repository that it is made of
 crates_of() {
   local crate
-  for crate in "$1" $(sed -n "s/^$1: //p" crates.txt); do
+  for crate in "$1" $(sed -n -E "s/^$1( staticlib)?: //p" crates.txt); do
     if [ -d "crates/$crate" ]; then echo "crates/$crate"; fi
   done
 }
 
-# is_made NAME PRODUCT: nothing has changed since the crate was proved and the product made
-is_made() {
-  [ -e "$2" ] && [ -e "target/$1.proved" ] && [ -z "$(find crates.txt $(crates_of "$1") -newer "target/$1.proved" -print -quit)" ]
+# sources_of NAME: the files that a crate is made of, without what rt keeps in out/
+sources_of() {
+  find crates.txt $(crates_of "$1") -name out -prune -o -type f -print | sort
 }
 
-# tell_progress COUNT: passes on what rt says, a line for each crate that is done
+# is_made NAME PRODUCT: the files are those of which the crate was proved and the product made, and none has changed since
+is_made() {
+  local files
+  [ -e "$2" ] && [ -e "target/$1.proved" ] && files=$(sources_of "$1") && [ "$files" = "$(cat "target/$1.files" 2>/dev/null)" ] &&
+    [ -z "$(find $files -newer "target/$1.proved" -print -quit)" ]
+}
+
+# tell_progress: passes on what rt says, a line for each crate that it has proved; of a crate that it had proved before it says nothing
 tell_progress() {
-  local line done=0
+  local line crate=
   while IFS= read -r line; do
     case $line in
-      'rt: '*' proved (unchanged '*) done=$((done + 1)) ;;
-      'rt: '*' proved ('*) done=$((done + 1)) && say "$done of $1: ${line#rt: }" ;;
-      'rt: target/staticlib/'*) say "$1 of $1: the library is made" ;; # rt names its last crate so
+      'crate '*': '*) crate=${line#crate } && crate=${crate%%:*} ;;
+      'logic=proved'*) say "proved: $crate" ;;
     esac
   done
 }
@@ -55,12 +61,25 @@ prove() {
   need rt "the Rattle toolchain"
   count=$(crates_of "$name" | wc -l)
   say "proving $count crates, which takes some minutes; what is proved already is not proved again"
+  sources_of "$name" > "target/$name.files"
   touch "target/$name.new"
-  if ! "$@" </dev/null 2>&1 | tee "$log" | tell_progress "$count"; then
+  if ! "$@" </dev/null 2>&1 | tee "$log" | tell_progress; then
     tail -n 20 "$log" >&2
     die "not proved; $log has all that rt said"
   fi
   mv "target/$name.new" "target/$name.proved"
+}
+
+# library NAME: proves a crate and makes its static library, target/staticlib/libNAME.a
+library() {
+  mkdir -p target/staticlib
+  (cd "crates/$1" && rt lib) && cp "crates/$1/out/lib$1.a" target/staticlib/
+}
+
+# program NAME: proves a crate and makes its program, target/bin/NAME, by running it once on no input
+program() {
+  mkdir -p target/bin
+  (cd "crates/$1" && rt run) && cp "crates/$1/out/$1" target/bin/
 }
 
 # made NAME PRODUCT COMMAND..: the product of a proved crate is there and new. One script at a time proves.
@@ -77,7 +96,7 @@ made() {
 
 # the proved crates as a library for C
 static_library() {
-  made geusomin target/staticlib/libgeusomin.a rt staticlib geusomin
+  made geusomin target/staticlib/libgeusomin.a library geusomin
 }
 
 # What builds the Rust original needs its source and a rustc that is new enough.

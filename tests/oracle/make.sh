@@ -2,12 +2,13 @@
 # Makes answers.txt: the texts of texts.py, each with the Rust original's answer; and, by tables.py, the rows of crates/orders.
 # Usage: ./make.sh           writes answers.txt and prints how many answers of each sort
 #        ./make.sh --check   compares instead of writing; exit status 1 if different
-# The list stands in crates/replay, whose program reads it; answers.txt is a link to it.
+# The list stands in crates/replay, whose program reads it, and once more beside this script: rt follows no link.
 # SOURCE, OUT and exit status 3 are those of build.sh.
 set -euo pipefail
 me=tests/oracle/make.sh
 HERE=$(cd "$(dirname "$(readlink -f "$0")")" && pwd)
 ANSWERS="$HERE/../../crates/replay/stdin"
+COPY="$HERE/answers.txt"
 . "$HERE/../../tools/common.sh"
 
 # A line of the list is the text's line, a space and the oracle's line.
@@ -69,8 +70,10 @@ make_answers
 ORACLE=$ORACLE python3 "$HERE/tables.py" "$@"
 if [ "${1:-}" = --check ]; then
   cmp "$WORK/answers.txt" "$ANSWERS" || exit 1
+  cmp "$ANSWERS" "$COPY" || exit 1
   echo "answers.txt is what the Rust original answers"
 else
   cp "$WORK/answers.txt" "$ANSWERS"
+  cp "$WORK/answers.txt" "$COPY"
 fi
 count_answers "$ANSWERS"
