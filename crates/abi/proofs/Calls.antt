@@ -2,7 +2,7 @@
 -- Assumes nothing.
 use mathlib.Core.Path.{◌≡◌, refl, ap, subst}
 use mathlib.Core.List.{List}
-use mathlib.Core.Option.{none, some}
+use Rattle.std.specs.Prelude.{None, Some}
 use Prim.Native.Nat.{ℕ, ◌≤◌}
 use native.Mathlib.Omega.{arith}
 use lib.Dec.{leb}
@@ -14,12 +14,10 @@ use Rattle.model.specs.declared.Keyword.{Keyword}
 use Rattle.model.specs.declared.Keyword.TheVariants as keyword
 use Rattle.model.specs.declared.Refusal.{Refusal}
 use Rattle.model.specs.declared.Refusal.TheVariants.{NotWellFormed, WrongSort}
-use Rattle.model.specs.declared.Answer.{Answer}
-use Rattle.model.specs.declared.Answer.TheVariants.{Refused}
 use Rattle.model.specs.Tree.{kinds_of, Declaration, name_kinds}
 use Rattle.model.specs.Record.{longest_record, decode, decode_lone}
 use Rattle.model.specs.Line.{canonical_text, signature_text, field_text, name_of, field_name}
-use Rattle.model.specs.Answer.{writes, refuses, refusal_number, handed, number}
+use Rattle.model.specs.Answer.{writes, refuses, refusal_number, handed, number, Answer, refusing}
 use Rattle.model.specs.Calls.{or_wrong_sort, of_record, canonical_output, signature_output, kind_text_output, name_output}
 use Rattle.model.proofs.Decoding.{when-some}
 use Rattle.layout.specs.Answers.{Ends}
@@ -32,18 +30,18 @@ use Rattle.record.specs.Says.{Says, FunctionSaid, ConstructorSaid, Declares, Fie
 use Rattle.abi.specs.Lines.{Lined, line_of, LineEnds, Signed, signature_of, SignatureEnds, Kinded, KindEnds, NameFound}
 
 -- what is read has at most 40,960 bytes
-pub short : (b : List ℕ) (d : Declaration) → decode b ≡ some d → length b ≤ longest_record
+pub short : (b : List ℕ) (d : Declaration) → decode b ≡ Some d → length b ≤ longest_record
 unfolding decode
 short b d e = when-some (leb (length b) longest_record) _ e (λ h _. leb-true (length b) longest_record h)
 
 -- a declaration that has a name
 pub record Declared (b : List ℕ) (s : Spot) (l : Measured) : Type 0 where
   pub tree : Declaration
-  pub same : decode b ≡ some tree
+  pub same : decode b ≡ Some tree
   pub line : Lined b s l
-  pub says : name_kinds tree ≡ some (record { name = line.name; kinds = kinds_of line.fields })
-  pub named : name_of tree ≡ some line.name
-  pub lone : decode_lone b ≡ none
+  pub says : name_kinds tree ≡ Some (record { name = line.name; kinds = kinds_of line.fields })
+  pub named : name_of tree ≡ Some line.name
+  pub lone : decode_lone b ≡ None
 
 -- what each call answers of it
 module _ (b : List ℕ) (s : Spot) (l : Measured) (w : Declared b s l) where
@@ -64,24 +62,24 @@ module _ (b : List ℕ) (s : Spot) (l : Measured) (w : Declared b s l) where
 
 -- what is no field, or no declaration
 module _ (b text : List ℕ) (r : Answer) where
-  pub no_kind_lem : decode_lone b ≡ none → r ≡ Refused NotWellFormed 0 → Ends (kind_text_output b) text text r
+  pub no_kind_lem : decode_lone b ≡ None → r ≡ refusing NotWellFormed 0 → Ends (kind_text_output b) text text r
   unfolding kind_text_output
   no_kind_lem e f = ends-refused (kind_text_output b) text r NotWellFormed 0 f (rw (kind_text_output, e))
 
-  pub no_canonical : decode b ≡ none → r ≡ Refused NotWellFormed 0 → Ends (canonical_output b) text text r
+  pub no_canonical : decode b ≡ None → r ≡ refusing NotWellFormed 0 → Ends (canonical_output b) text text r
   unfolding canonical_output
   no_canonical e f = ends-refused (canonical_output b) text r NotWellFormed 0 f (rw (canonical_output, e))
 
-  pub no_signature_lem : decode b ≡ none → r ≡ Refused NotWellFormed 0 → Ends (signature_output b) text text r
+  pub no_signature_lem : decode b ≡ None → r ≡ refusing NotWellFormed 0 → Ends (signature_output b) text text r
   unfolding signature_output
   no_signature_lem e f = ends-refused (signature_output b) text r NotWellFormed 0 f (rw (signature_output, e))
 
-  module _ (d : Declaration) (e : decode b ≡ some d) where
-    pub nameless_canonical : name_kinds d ≡ none → r ≡ Refused WrongSort 0 → Ends (canonical_output b) text text r
+  module _ (d : Declaration) (e : decode b ≡ Some d) where
+    pub nameless_canonical : name_kinds d ≡ None → r ≡ refusing WrongSort 0 → Ends (canonical_output b) text text r
     unfolding canonical_output canonical_text
     nameless_canonical z f = ends-refused (canonical_output b) text r WrongSort 0 f (rw (canonical_output, e, canonical_text, z))
 
-    pub other-signature : signature_text d ≡ none → r ≡ Refused WrongSort 0 → Ends (signature_output b) text text r
+    pub other-signature : signature_text d ≡ None → r ≡ refusing WrongSort 0 → Ends (signature_output b) text text r
     unfolding signature_output
     other-signature z f = ends-refused (signature_output b) text r WrongSort 0 f (rw (signature_output, e, z))
 
@@ -94,7 +92,7 @@ module _ (b : List ℕ) (s : Spot) (ins outs : Measured) where
   of_function_lem : FunctionSaid b (decode b) s ins outs → Lined b s ins
   of_function_lem w = record { name = w.name; sort = Parameter; fields = w.ins; named = w.named; listed = w.inputs; short = short b _ w.same }
 
-  declared : (w : Keyword) → Declares w b (decode b) s ins outs → decode_lone b ≡ none → Declared b s ins
+  declared : (w : Keyword) → Declares w b (decode b) s ins outs → decode_lone b ≡ None → Declared b s ins
   unfolding name_kinds name_of of_function_lem
   declared keyword.Function w z = record {
     tree = Declaration.function w.mutability w.name w.ins w.outs;
@@ -125,7 +123,7 @@ module _ (b : List ℕ) (s : Spot) (ins outs : Measured) where
 -- by what the check found
 module _ (b : List ℕ) (k : Checked) (i : Says b (decode b) (decode_lone b) k) where
   module _ (w : Keyword) (s : Spot) (ins outs : Measured) (e : k ≡ checked.Declared w s ins outs) where
-    declared-said : Declares w b (decode b) s ins outs × (decode_lone b ≡ none)
+    declared-said : Declares w b (decode b) s ins outs × (decode_lone b ≡ None)
     declared-said = subst (Says b (decode b) (decode_lone b)) e i
 
     pub is_declared : Declared b s ins
@@ -148,27 +146,27 @@ module _ (b : List ℕ) (k : Checked) (i : Says b (decode b) (decode_lone b) k) 
       pub nameless_signature : w ≡ keyword.Constructor → Ends (signature_output b) text text r
       nameless_signature q = absurd (declares keyword.Constructor q)
 
-      pub event-signature : w ≡ keyword.Event → r ≡ Refused WrongSort 0 → Ends (signature_output b) text text r
+      pub event-signature : w ≡ keyword.Event → r ≡ refusing WrongSort 0 → Ends (signature_output b) text text r
       unfolding signature_text
       event-signature q = other-signature b text r _ (declares keyword.Event q).same refl
 
-      pub error-signature : w ≡ keyword.Error → r ≡ Refused WrongSort 0 → Ends (signature_output b) text text r
+      pub error-signature : w ≡ keyword.Error → r ≡ refusing WrongSort 0 → Ends (signature_output b) text text r
       unfolding signature_text
       error-signature q = other-signature b text r _ (declares keyword.Error q).same refl
 
   module _ (e : k ≡ checked.Constructor) where
-    constructor-said : ConstructorSaid (decode b) × (decode_lone b ≡ none)
+    constructor-said : ConstructorSaid (decode b) × (decode_lone b ≡ None)
     constructor-said = subst (Says b (decode b) (decode_lone b)) e i
 
-    pub constructor-canonical : (text : List ℕ) (r : Answer) → r ≡ Refused WrongSort 0 → Ends (canonical_output b) text text r
+    pub constructor-canonical : (text : List ℕ) (r : Answer) → r ≡ refusing WrongSort 0 → Ends (canonical_output b) text text r
     unfolding name_kinds
     constructor-canonical text r = nameless_canonical b text r _ constructor-said.0.same refl
 
-    pub constructor-signature : (text : List ℕ) (r : Answer) → r ≡ Refused WrongSort 0 → Ends (signature_output b) text text r
+    pub constructor-signature : (text : List ℕ) (r : Answer) → r ≡ refusing WrongSort 0 → Ends (signature_output b) text text r
     unfolding signature_text
     constructor-signature text r = other-signature b text r _ constructor-said.0.same refl
 
-    pub constructor-kind : (text : List ℕ) (r : Answer) → r ≡ Refused NotWellFormed 0 → Ends (kind_text_output b) text text r
+    pub constructor-kind : (text : List ℕ) (r : Answer) → r ≡ refusing NotWellFormed 0 → Ends (kind_text_output b) text text r
     constructor-kind text r = no_kind_lem b text r constructor-said.1
 
     pub constructor-name : NameFound b (record { from = 0; to = 0 }) 16
@@ -176,10 +174,10 @@ module _ (b : List ℕ) (k : Checked) (i : Says b (decode b) (decode_lone b) k) 
     constructor-name = nowhere b WrongSort (rw (name_output, constructor-said.0.same))
 
   module _ (s : Spot) (l : Measured) (e : k ≡ checked.Field s l) where
-    field-said : (decode b ≡ none) × FieldSaid b (decode_lone b) s l
+    field-said : (decode b ≡ None) × FieldSaid b (decode_lone b) s l
     field-said = subst (Says b (decode b) (decode_lone b)) e i
 
-    pub field-none : decode b ≡ none
+    pub field-none : decode b ≡ None
     field-none = field-said.0
 
     pub field-kinded : Kinded b l
@@ -199,13 +197,13 @@ module _ (b : List ℕ) (k : Checked) (i : Says b (decode b) (decode_lone b) k) 
         record { there = rw f w.named.there; order = w.named.order; inside = w.named.inside; number = rw f }
 
   module _ (e : k ≡ checked.IllFormed) where
-    ill_said : (decode b ≡ none) × (decode_lone b ≡ none)
+    ill_said : (decode b ≡ None) × (decode_lone b ≡ None)
     ill_said = subst (Says b (decode b) (decode_lone b)) e i
 
-    pub ill_none : decode b ≡ none
+    pub ill_none : decode b ≡ None
     ill_none = ill_said.0
 
-    pub ill_lone : decode_lone b ≡ none
+    pub ill_lone : decode_lone b ≡ None
     ill_lone = ill_said.1
 
     pub ill_name : NameFound b (record { from = 0; to = 0 }) 15

@@ -2,7 +2,8 @@
 -- Assumes nothing.
 use mathlib.Core.Path.{◌≡◌, refl, sym, ◌∙◌, ap}
 use mathlib.Core.List.{List, [], ◌∷◌, ◌++◌}
-use mathlib.Core.Option.{Option, none, some, none-ne-some, some-injective}
+use Rattle.std.specs.Prelude.{Option, None, Some}
+use Rattle.std.proofs.lemmas.Option.{none-some, same_Some}
 use Prim.Native.Nat.{ℕ, ◌+◌, ◌-◌, ◌≤◌, ◌<◌}
 use native.Mathlib.Omega.{arith}
 use lib.ListN.{length, take, drop, set, length-append, length-set}
@@ -32,29 +33,29 @@ pub data Bracketed (t u : List ℕ) : Type 0 where
 -- the text with a comma before each field, where there is one in brackets
 pub record Commas (sort : Sort) (d : ℕ) (b u : List ℕ) : Type 0 where
   pub text : List ℕ
-  pub same : fields_in sort d (length b) b ≡ some text
+  pub same : fields_in sort d (length b) b ≡ Some text
   pub shape : Bracketed text u
   pub short : length text ≤ length u
 
-commas : (sort : Sort) (d : ℕ) (b u : List ℕ) → tuple_text_from sort d b ≡ some u → Commas sort d b u
+commas : (sort : Sort) (d : ℕ) (b u : List ℕ) → tuple_text_from sort d b ≡ Some u → Commas sort d b u
 unfolding fields_in tuple_text_from fields_from kinds_of kind_text rest_text
 commas sort d b u e = go (fields_from sort d b) refl e
   where
-    go : (o : Option Fields) → fields_from sort d b ≡ o → on_option (λ fs. kind_text (tuple (kinds_of fs))) o ≡ some u → Commas sort d b u
-    go none p q = absurd (none-ne-some u q)
-    go (some no_field) p q = record {
+    go : (o : Option Fields) → fields_from sort d b ≡ o → on_option (λ fs. kind_text (tuple (kinds_of fs))) o ≡ Some u → Commas sort d b u
+    go None p q = absurd (none-some u q)
+    go (Some no_field) p q = record {
       text = rparen ∷ [];
       same = ap (on_option (λ fs. rest_text (kinds_of fs))) p;
-      shape = bare refl (sym (some-injective _ _ q));
-      short = omega (arith, ap length (some-injective _ _ q));
+      shape = bare refl (sym (same_Some _ _ q));
+      short = omega (arith, ap length (same_Some _ _ q));
     }
-    go (some (more_fields f fs)) p q =
+    go (Some (more_fields f fs)) p q =
         let w : List ℕ = kind_text (kind_of f) ++ rest_text (kinds_of fs) in
         record {
           text = comma ∷ w;
           same = ap (on_option (λ gs. rest_text (kinds_of gs))) p;
-          shape = more w (omega (arith, kind-full (kind_of f), length-append (kind_text (kind_of f)) (rest_text (kinds_of fs)))) refl (sym (some-injective _ _ q));
-          short = omega (arith, ap length (some-injective _ _ q));
+          shape = more w (omega (arith, kind-full (kind_of f), length-append (kind_text (kind_of f)) (rest_text (kinds_of fs)))) refl (sym (same_Some _ _ q));
+          short = omega (arith, ap length (same_Some _ _ q));
         }
 
 -- the loop
@@ -109,7 +110,7 @@ module _ (b : List ℕ) (o : ℕ) (b₀ : List ℕ) (at p : ℕ) (out : List ℕ
       emptied : p ≡ o → Bracketed r.text q.text → Wrote (tuple_text_from sort d b) o b₀ (set (set out o 40) (o + 1) 41) (o + 2)
       emptied z (bare e f) =
           let same : out ≡ b₀ = r.run.same ∙ nothing r.run.done (omega (arith, r.run.place)) in
-          wrote-text (tuple_text_from sort d b) (lparen ∷ rparen ∷ []) (q.same ∙ ap some f) o b₀ _ (o + 2) (rw same (store_2 b₀ o 40 41 s.least)) refl
+          wrote-text (tuple_text_from sort d b) (lparen ∷ rparen ∷ []) (q.same ∙ ap Some f) o b₀ _ (o + 2) (rw same (store_2 b₀ o 40 41 s.least)) refl
       emptied z (more w e f g) = absurd (omega (arith, r.run.place, ap length f, longer))
 
       closed : set out p 41 ≡ put o r.text b₀
@@ -120,7 +121,7 @@ module _ (b : List ℕ) (o : ℕ) (b₀ : List ℕ) (at p : ℕ) (out : List ℕ
       filled : (p ≡ o → ⊥) → Bracketed r.text q.text → Wrote (tuple_text_from sort d b) o b₀ (set (set out p 41) o 40) (p + 1)
       filled z (bare e f) = absurd (z (omega (arith, longer, ap length e, r.run.place)))
       filled z (more w e f g) =
-          wrote-text (tuple_text_from sort d b) (lparen ∷ w) (q.same ∙ ap some g) o b₀ _ (p + 1)
+          wrote-text (tuple_text_from sort d b) (lparen ∷ w) (q.same ∙ ap Some g) o b₀ _ (p + 1)
           (ap (λ x. set x o 40) (closed ∙ ap (λ x. put o x b₀) f) ∙ put_first b₀ w o comma 40 (omega (arith, r.run.room, ap length f)))
           (omega (arith, longer, ap length f, r.run.place))
 
@@ -163,7 +164,7 @@ module _ (b : List ℕ) (o : ℕ) (b₀ : List ℕ) (at p : ℕ) (out : List ℕ
         abbrev here : List ℕ
         here = (run-first (fields_in sort d) (field_text_from sort d) (λ u. comma ∷ u) (rparen ∷ []) 1 (field_steps sort d) b _ o b₀ at p out (s.all sort d q).run h).here
 
-        item : field_text_from sort d 0x10 body ≡ some here
+        item : field_text_from sort d 0x10 body ≡ Some here
         item =
             let f = run-item (fields_in sort d) (field_text_from sort d) (λ u. comma ∷ u) (rparen ∷ []) 1 (field_steps sort d) b _ o b₀ at p out (s.all sort d q).run h l e _ refl in
             let (k, _, _, _) = field-kind sort d _ body here f in

@@ -2,7 +2,8 @@
 -- Assumes nothing.
 use mathlib.Core.Path.{◌≡◌, refl, sym, ◌∙◌, ap}
 use mathlib.Core.List.{List, ◌++◌}
-use mathlib.Core.Option.{some, none-ne-some}
+use Rattle.std.specs.Prelude.{Some}
+use Rattle.std.proofs.lemmas.Option.{none-some}
 use Prim.Native.Nat.{ℕ, zero, suc, ◌+◌, ◌-◌, ◌≤◌, ◌<◌}
 use native.Mathlib.Omega.{arith}
 use lib.ListN.{length, take, drop, length-append}
@@ -28,24 +29,24 @@ pub record KindThere (d : ℕ) (t : List ℕ) : Type 0 where
   pub inside : le_value (take 4 t) ≤ length t
   pub base : List ℕ
   pub suffixes : List ℕ
-  pub base-is : base_text_from d (le_value (take 2 (drop 4 t))) (take (le_value (take 4 t) - 6) (drop 6 t)) ≡ some base
-  pub suffixes-is : suffixes_from (drop (le_value (take 4 t)) t) ≡ some suffixes
-  pub whole : kind_from d t ≡ some (base ++ suffixes)
+  pub base-is : base_text_from d (le_value (take 2 (drop 4 t))) (take (le_value (take 4 t) - 6) (drop 6 t)) ≡ Some base
+  pub suffixes-is : suffixes_from (drop (le_value (take 4 t)) t) ≡ Some suffixes
+  pub whole : kind_from d t ≡ Some (base ++ suffixes)
 
-pub kind-there : (d : ℕ) (t u : List ℕ) → kind_from d t ≡ some u → KindThere d t
+pub kind-there : (d : ℕ) (t u : List ℕ) → kind_from d t ≡ Some u → KindThere d t
 unfolding kind_from
 kind-there d t u e =
     piece-there t _ e (λ low inside f.
     given-some (base_text_from d (le_value (take 2 (drop 4 t))) (take (le_value (take 4 t) - 6) (drop 6 t))) _ f (λ x p g.
     on_some (λ y. x ++ y) (suffixes_from (drop (le_value (take 4 t)) t)) g (λ y q i.
-    record { low = low; inside = inside; base = x; suffixes = y; base-is = p; suffixes-is = q; whole = e ∙ ap some (sym i) })))
+    record { low = low; inside = inside; base = x; suffixes = y; base-is = p; suffixes-is = q; whole = e ∙ ap Some (sym i) })))
 
 there : (t : List ℕ) (o : ℕ) (b : List ℕ) (d : ℕ) → Room (kind_from d t) o b → KindThere d t
 there t o b d q = kind-there d t q.text q.same
 
 -- a tuple is gone into where one may still nest
-pub deeper : (d k : ℕ) (body u : List ℕ) → k ≡ 9 → base_text_from d k body ≡ some u → tuple_text_from Plain (d - 1) body ≡ some u
-deeper zero k body u y e = absurd (none-ne-some u (sym (base-deep zero k body y refl) ∙ e))
+pub deeper : (d k : ℕ) (body u : List ℕ) → k ≡ 9 → base_text_from d k body ≡ Some u → tuple_text_from Plain (d - 1) body ≡ Some u
+deeper zero k body u y e = absurd (none-some u (sym (base-deep zero k body y refl) ∙ e))
 deeper (suc d) k body u y e = sym (base-tuple (suc d) k body y (λ z. absurd (omega arith))) ∙ e
 
 -- brackets take two bytes
@@ -65,10 +66,10 @@ module _ (t : List ℕ) (o : ℕ) (b : List ℕ) (n k : ℕ) (e : n ≡ le_value
   rest = take (length t - n) (drop n t)
 
   module _ (d : ℕ) (q : Room (kind_from d t) o b) where
-    base-here : base_text_from d k body ≡ some (there t o b d q).base
+    base-here : base_text_from d k body ≡ Some (there t o b d q).base
     base-here = rw (f, e) (there t o b d q).base-is
 
-    suffixes-here : suffixes_from rest ≡ some (there t o b d q).suffixes
+    suffixes-here : suffixes_from rest ≡ Some (there t o b d q).suffixes
     suffixes-here = rw (part-rest, e) (there t o b d q).suffixes-is
 
     base-room : Room (base_text_from d k body) o b
@@ -77,7 +78,7 @@ module _ (t : List ℕ) (o : ℕ) (b : List ℕ) (n k : ℕ) (e : n ≡ le_value
   -- what is written of the base
   tuple-base : k ≡ 9 → (b₁ : List ℕ) (p : ℕ) → FieldsWrote body o b b₁ p → BaseWrote k body o b b₁ p
   tuple-base y b₁ p w d q =
-      let g : tuple_text_from Plain (d - 1) body ≡ some q.text = deeper d k body q.text y q.same in
+      let g : tuple_text_from Plain (d - 1) body ≡ Some q.text = deeper d k body q.text y q.same in
       let z = w Plain (d - 1) (record { text = q.text; same = g; room = q.room }) in
       wrote-text (base_text_from d k body) q.text q.same o b b₁ p (z.all q.text g) (z.end q.text g)
 
@@ -129,19 +130,19 @@ module _ (t : List ℕ) (o : ℕ) (b : List ℕ) (n k : ℕ) (e : n ≡ le_value
       elementary-kind y w = kind-wrote b₁ p (elementary-base y b₁ p w)
 
 -- a field: its kind stands behind its name
-module _ (sort : Sort) (d k : ℕ) (body u : List ℕ) (e : field_text_from sort d k body ≡ some u) where
-  pub field-kind : (k ≡ 0x10) × (8 ≤ name_end body) × (name_end body + 6 ≤ length body) × (kind_from d (drop (name_end body) body) ≡ some u)
+module _ (sort : Sort) (d k : ℕ) (body u : List ℕ) (e : field_text_from sort d k body ≡ Some u) where
+  pub field-kind : (k ≡ 0x10) × (8 ≤ name_end body) × (name_end body + 6 ≤ length body) × (kind_from d (drop (name_end body) body) ≡ Some u)
   unfolding field_text_from
   field-kind =
       on_some field_text (field_from 4 sort (base_from (tuple_from 4 d)) k body) e (λ f p g.
       let (z, h) = field-there sort d k body f p in
-      (z, h.low, h.inside, h.kind ∙ ap some g))
+      (z, h.low, h.inside, h.kind ∙ ap Some g))
 
 module _ (body : List ℕ) (o : ℕ) (b : List ℕ) (v : ℕ) (e : v ≡ le_value (take 4 (drop 2 body))) where
   abbrev behind : List ℕ
   behind = take (length body - (2 + v)) (drop (2 + v) body)
 
-  here : (sort : Sort) (d : ℕ) (u : List ℕ) → field_text_from sort d 0x10 body ≡ some u → kind_from d behind ≡ some u
+  here : (sort : Sort) (d : ℕ) (u : List ℕ) → field_text_from sort d 0x10 body ≡ Some u → kind_from d behind ≡ Some u
   here sort d u f = let (_, _, _, g) = field-kind sort d 0x10 body u f in rw (part-rest, e) g
 
   pub field-asks : FieldRoom body o b → KindRoom behind o b

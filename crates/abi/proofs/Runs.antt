@@ -2,7 +2,8 @@
 -- Assumes nothing.
 use mathlib.Core.Path.{◌≡◌, refl, sym, ◌∙◌, ap}
 use mathlib.Core.List.{List, [], ◌++◌, append_assoc, append-nil}
-use mathlib.Core.Option.{Option, some, some-injective}
+use Rattle.std.specs.Prelude.{Option, Some}
+use Rattle.std.proofs.lemmas.Option.{same_Some}
 use Prim.Native.Nat.{ℕ, zero, suc, ◌+◌, ◌-◌, ◌≤◌, ◌<◌}
 use native.Mathlib.Omega.{arith}
 use native.Mathlib.Numerals.{sub-one}
@@ -27,12 +28,12 @@ pub record Stepped (E : ℕ → List ℕ → Option (List ℕ)) (item : ℕ → 
   pub inside : le_value (take 4 t) ≤ length t
   pub here : List ℕ
   pub behind : List ℕ
-  pub item-is : item (le_value (take 2 (drop 4 t))) (take (le_value (take 4 t) - 6) (drop 6 t)) ≡ some here
-  pub rest-is : E k (drop (le_value (take 4 t)) t) ≡ some behind
+  pub item-is : item (le_value (take 2 (drop 4 t))) (take (le_value (take 4 t) - 6) (drop 6 t)) ≡ Some here
+  pub rest-is : E k (drop (le_value (take 4 t)) t) ≡ Some behind
   pub joined : v ≡ join here behind
 
 pub stepped : (E : ℕ → List ℕ → Option (List ℕ)) (item : ℕ → List ℕ → Option (List ℕ)) (join : List ℕ → List ℕ → List ℕ) (stop : List ℕ) (extra : ℕ) → Steps E item join stop extra
-    → (k : ℕ) (t v : List ℕ) → 0 < length t → length t ≤ k → E k t ≡ some v → Stepped E item join (k - 1) t v
+    → (k : ℕ) (t v : List ℕ) → 0 < length t → length t ≤ k → E k t ≡ Some v → Stepped E item join (k - 1) t v
 stepped E item join stop extra st zero t v h l e = absurd (omega arith)
 stepped E item join stop extra st (suc k) t v h l e =
     piece-there t _ (sym (st.step k t h) ∙ e) (λ low inside f.
@@ -47,14 +48,14 @@ pub record Run (E : ℕ → List ℕ → Option (List ℕ)) (b text : List ℕ) 
   pub rest : List ℕ
   pub inside : at ≤ length b
   pub enough : length b - at ≤ left
-  pub still : E left (drop at b) ≡ some rest
+  pub still : E left (drop at b) ≡ Some rest
   pub split : text ≡ done ++ rest
   pub place : p ≡ o + length done
   pub room : o + length text ≤ length b₀
   pub size : length out ≡ length b₀
   pub same : out ≡ put o done b₀
 
-pub run-start : (E : ℕ → List ℕ → Option (List ℕ)) (b text : List ℕ) (o : ℕ) (b₀ : List ℕ) → E (length b) b ≡ some text → o + length text ≤ length b₀ → Run E b text o b₀ 0 o b₀
+pub run-start : (E : ℕ → List ℕ → Option (List ℕ)) (b text : List ℕ) (o : ℕ) (b₀ : List ℕ) → E (length b) b ≡ Some text → o + length text ≤ length b₀ → Run E b text o b₀ 0 o b₀
 run-start E b text o b₀ e h = record {
   left = length b;
   done = [];
@@ -72,7 +73,7 @@ run-start E b text o b₀ e h = record {
 module _ (E : ℕ → List ℕ → Option (List ℕ)) (item : ℕ → List ℕ → Option (List ℕ)) (front : List ℕ → List ℕ) (stop : List ℕ) (extra : ℕ) (st : Steps E item (λ u v. front u ++ v) stop extra)
     (b text : List ℕ) (o : ℕ) (b₀ : List ℕ) (at p : ℕ) (out : List ℕ) (s : Run E b text o b₀ at p out) where
   pub run_end : length b ≤ at → text ≡ s.done ++ stop
-  run_end h = s.split ∙ ap (λ z. s.done ++ z) (some-injective _ _ (sym s.still ∙ ap (E s.left) (drop_of_length-le b h) ∙ st.end s.left))
+  run_end h = s.split ∙ ap (λ z. s.done ++ z) (same_Some _ _ (sym s.still ∙ ap (E s.left) (drop_of_length-le b h) ∙ st.end s.left))
 
   module _ (h : at < length b) where
     abbrev part : List ℕ
@@ -98,7 +99,7 @@ module _ (E : ℕ → List ℕ → Option (List ℕ)) (item : ℕ → List ℕ �
       pub run_inside : at + l ≤ length b
       run_inside = omega (arith, long, run-first.inside, length-drop at b)
 
-      pub run-item : (k : ℕ) → k ≡ le_value (take 2 (drop 4 part)) → item k (take (l - 6) (drop 6 part)) ≡ some run-first.here
+      pub run-item : (k : ℕ) → k ≡ le_value (take 2 (drop 4 part)) → item k (take (l - 6) (drop 6 part)) ≡ Some run-first.here
       run-item k f = rw (f, part-rest, long) run-first.item-is
 
       pub run-next : (r : ℕ) (out₁ : List ℕ) → out₁ ≡ put p (front run-first.here) out → r ≡ p + length (front run-first.here) → Run E b text o b₀ (at + l) r out₁
@@ -125,7 +126,7 @@ SuffixesRun b text o b₀ at p out = Run suffixes_in b text o b₀ at p out
 
 pub record SuffixesOut (b : List ℕ) (o : ℕ) (b₀ : List ℕ) (at p : ℕ) (out : List ℕ) : Type 0 where
   pub text : List ℕ
-  pub whole : suffixes_from b ≡ some text
+  pub whole : suffixes_from b ≡ Some text
   pub run : SuffixesRun b text o b₀ at p out
 
 pub suffixes-start : (b : List ℕ) (o : ℕ) (b₀ : List ℕ) → Room (suffixes_from b) o b₀ → SuffixesOut b o b₀ 0 o b₀
@@ -135,7 +136,7 @@ module _ (b : List ℕ) (o : ℕ) (b₀ : List ℕ) (at p : ℕ) (out : List ℕ
   pub suffixes-end : length b ≤ at → Wrote (suffixes_from b) o b₀ out p
   suffixes-end h =
       let all : s.text ≡ s.run.done = run_end suffixes_in suffix_from (λ u. u) [] 0 suffix_steps b s.text o b₀ at p out s.run h ∙ append-nil s.run.done in
-      wrote-text (suffixes_from b) s.run.done (s.whole ∙ ap some all) o b₀ out p s.run.same s.run.place
+      wrote-text (suffixes_from b) s.run.done (s.whole ∙ ap Some all) o b₀ out p s.run.same s.run.place
 
   module _ (h : at < length b) where
     pub suffixes-least : 6 ≤ length (take (length b - at) (drop at b))
@@ -149,7 +150,7 @@ module _ (b : List ℕ) (o : ℕ) (b₀ : List ℕ) (at p : ℕ) (out : List ℕ
       suffixes-inside = run_inside suffixes_in suffix_from (λ u. u) [] 0 suffix_steps b s.text o b₀ at p out s.run h l e
 
       module _ (k : ℕ) (f : k ≡ le_value (take 2 (drop 4 (take (length b - at) (drop at b))))) where
-        item-here : suffix_from k (take (l - 6) (drop 6 (take (length b - at) (drop at b)))) ≡ some (run-first suffixes_in suffix_from (λ u. u) [] 0 suffix_steps b s.text o b₀ at p out s.run h).here
+        item-here : suffix_from k (take (l - 6) (drop 6 (take (length b - at) (drop at b)))) ≡ Some (run-first suffixes_in suffix_from (λ u. u) [] 0 suffix_steps b s.text o b₀ at p out s.run h).here
         item-here = run-item suffixes_in suffix_from (λ u. u) [] 0 suffix_steps b s.text o b₀ at p out s.run h l e k f
 
         pub suffixes-asks : Room (suffix_from k (take (l - 6) (drop 6 (take (length b - at) (drop at b))))) p out

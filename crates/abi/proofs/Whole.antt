@@ -1,8 +1,9 @@
 -- Lines written of a record that was checked.
 -- Assumes nothing.
+use Rattle.std.specs.Prelude.{Ok}
 use mathlib.Core.Path.{◌≡◌, refl, sym, ◌∙◌, ap}
 use mathlib.Core.List.{List, ◌++◌}
-use mathlib.Core.Option.{some}
+use Rattle.std.specs.Prelude.{Some}
 use Prim.Native.Nat.{ℕ, ◌+◌, ◌-◌, ◌≤◌, ◌<◌}
 use native.Mathlib.Omega.{arith}
 use native.Mathlib.Nat.{zero-add}
@@ -11,13 +12,11 @@ use lib.Seq.{length-take-le}
 use Rattle.kinds.specs.Bytes.{ascii}
 use Rattle.kinds.specs.Kind.{Kind, kind_text}
 use Rattle.model.specs.declared.Refusal.TheVariants.{NoRoom}
-use Rattle.model.specs.declared.Answer.{Answer}
-use Rattle.model.specs.declared.Answer.TheVariants.{Accepted, Refused}
 use Rattle.model.specs.Tree.{kinds_of}
 use Rattle.model.specs.Reading.{deepest}
 use Rattle.model.specs.Record.{on_option}
 use Rattle.model.specs.Line.{field_text}
-use Rattle.model.specs.Answer.{writes}
+use Rattle.model.specs.Answer.{writes, Answer, refusing}
 use Rattle.model.proofs.Decoding.{on_some}
 use Rattle.layout.specs.Buffer.{put}
 use Rattle.layout.proofs.Puts.{put_then, length-put}
@@ -77,13 +76,13 @@ module _ (b : List ℕ) (s : Spot) (l : Measured) (p : Lined b s l) where
   abbrev kinds : List ℕ
   kinds = kind_text (Kind.tuple (kinds_of p.fields))
 
-  said-kinds : tuple_text_from p.sort deepest (take (l.to - l.from) (drop l.from b)) ≡ some kinds
+  said-kinds : tuple_text_from p.sort deepest (take (l.to - l.from) (drop l.from b)) ≡ Some kinds
   unfolding tuple_text_from
   said-kinds = ap (on_option (λ fs. kind_text (Kind.tuple (kinds_of fs)))) (fields-decode p.sort (take (l.to - l.from) (drop l.from b)) ∙ p.listed.there)
 
-  said-line : line_from p.sort deepest b s.from s.to l.from l.to ≡ some (line_of p)
+  said-line : line_from p.sort deepest b s.from s.to l.from l.to ≡ Some (line_of p)
   unfolding line_from line_of
-  said-line = rw said-kinds (ap (λ x. some (x ++ kinds)) p.named.there)
+  said-line = rw said-kinds (ap (λ x. Some (x ++ kinds)) p.named.there)
 
   line-long : length (line_of p) ≡ s.to - s.from + l.text
   unfolding line_of
@@ -113,19 +112,19 @@ module _ (b : List ℕ) (s : Spot) (l : Measured) (p : Lined b s l) where
       (z.all (line_of p) said-line, z.end (line_of p) said-line ∙ zero-add (length (line_of p)))
 
 module _ (b : List ℕ) (s : Spot) (l : Measured) (text : List ℕ) where
-  pub line-full : (r : Answer) → r ≡ Refused NoRoom 0 → length text < s.to - s.from + l.text → LineEnds b s l text text r
+  pub line-full : (r : Answer) → r ≡ refusing NoRoom 0 → length text < s.to - s.from + l.text → LineEnds b s l text text r
   line-full r e h p = ends-full (writes (line_of p)) text r (line_of p) e refl (omega (arith, line-long b s l p))
 
-  pub line-ends : (text₁ : List ℕ) (m : ℕ) → s.to - s.from + l.text ≤ length text → LineWrote b s.from s.to l.from l.to text text₁ m → LineEnds b s l text text₁ (Accepted (s.to - s.from + l.text))
+  pub line-ends : (text₁ : List ℕ) (m : ℕ) → s.to - s.from + l.text ≤ length text → LineWrote b s.from s.to l.from l.to text text₁ m → LineEnds b s l text text₁ (Ok (s.to - s.from + l.text))
   line-ends text₁ m h w p =
-      ends-written (writes (line_of p)) text _ (line_of p) text₁ (ap Accepted (sym (line-long b s l p))) refl (omega (arith, line-long b s l p)) (line-there b s l p text text₁ m h w).0
+      ends-written (writes (line_of p)) text _ (line_of p) text₁ (ap Ok (sym (line-long b s l p))) refl (omega (arith, line-long b s l p)) (line-there b s l p text text₁ m h w).0
 
 -- a signature that a record says
 module _ (b : List ℕ) (s : Spot) (i o : Measured) (p : Signed b s i o) where
   abbrev outs : List ℕ
   outs = kind_text (Kind.tuple (kinds_of p.outputs))
 
-  said-outs : tuple_text_from p.sort deepest (take (o.to - o.from) (drop o.from b)) ≡ some outs
+  said-outs : tuple_text_from p.sort deepest (take (o.to - o.from) (drop o.from b)) ≡ Some outs
   unfolding tuple_text_from
   said-outs = ap (on_option (λ fs. kind_text (Kind.tuple (kinds_of fs)))) (fields-decode p.sort (take (o.to - o.from) (drop o.from b)) ∙ p.listed.there)
 
@@ -176,20 +175,20 @@ module _ (b : List ℕ) (s : Spot) (i o : Measured) (p : Signed b s i o) where
       signature-size text₂ m v = ap length (signature-there text₂ m v) ∙ length-put 0 (signature_of p) text (omega (arith, signature-long))
 
 module _ (b : List ℕ) (s : Spot) (i o : Measured) (text : List ℕ) where
-  pub signature-full : (r : Answer) → r ≡ Refused NoRoom 0 → length text < s.to - s.from + i.text + 1 + o.text → SignatureEnds b s i o text text r
+  pub signature-full : (r : Answer) → r ≡ refusing NoRoom 0 → length text < s.to - s.from + i.text + 1 + o.text → SignatureEnds b s i o text text r
   signature-full r e h p = ends-full (writes (signature_of p)) text r (signature_of p) e refl (omega (arith, signature-long b s i o p))
 
   pub signature-ends : (text₁ text₂ : List ℕ) (r m : ℕ) → s.to - s.from + i.text + 1 + o.text ≤ length text → LineWrote b s.from s.to i.from i.to text text₁ r
-      → FieldsWrote (take (o.to - o.from) (drop o.from b)) (r + 1) (set text₁ r 58) text₂ m → SignatureEnds b s i o text text₂ (Accepted (s.to - s.from + i.text + 1 + o.text))
+      → FieldsWrote (take (o.to - o.from) (drop o.from b)) (r + 1) (set text₁ r 58) text₂ m → SignatureEnds b s i o text text₂ (Ok (s.to - s.from + i.text + 1 + o.text))
   signature-ends text₁ text₂ r m h w v p =
-      ends-written (writes (signature_of p)) text _ (signature_of p) text₂ (ap Accepted (sym (signature-long b s i o p))) refl (omega (arith, signature-long b s i o p)) (signature-there b s i o p text h text₁ r w text₂ m v)
+      ends-written (writes (signature_of p)) text _ (signature_of p) text₂ (ap Ok (sym (signature-long b s i o p))) refl (omega (arith, signature-long b s i o p)) (signature-there b s i o p text h text₁ r w text₂ m v)
 
 -- a field's kind
 module _ (b : List ℕ) (l : Measured) (text : List ℕ) where
   abbrev there : List ℕ
   there = take (l.to - l.from) (drop l.from b)
 
-  pub kind-full : (r : Answer) → r ≡ Refused NoRoom 0 → length text < l.text → KindEnds b l text text r
+  pub kind-full : (r : Answer) → r ≡ refusing NoRoom 0 → length text < l.text → KindEnds b l text text r
   kind-full r e h p = ends-full (writes (field_text p.field)) text r (field_text p.field) e refl (omega (arith, p.said.long))
 
   module _ (h : l.text ≤ length text) where
@@ -199,8 +198,8 @@ module _ (b : List ℕ) (l : Measured) (text : List ℕ) where
     pub kind-asks : Kinded b l → KindRoom there 0 text
     kind-asks p = let z = kind-there deepest there (field_text p.field) p.said.there in record { d = deepest; at = here p; low = z.low; inside = z.inside }
 
-    pub kind-ends : (text₁ : List ℕ) (m : ℕ) → KindWrote there 0 text text₁ m → KindEnds b l text text₁ (Accepted l.text)
+    pub kind-ends : (text₁ : List ℕ) (m : ℕ) → KindWrote there 0 text text₁ m → KindEnds b l text text₁ (Ok l.text)
     kind-ends text₁ m w p =
-        ends-written (writes (field_text p.field)) text _ (field_text p.field) text₁ (ap Accepted p.said.long) refl (omega (arith, p.said.long)) ((w deepest (here p)).all (field_text p.field) p.said.there)
+        ends-written (writes (field_text p.field)) text _ (field_text p.field) text₁ (ap Ok p.said.long) refl (omega (arith, p.said.long)) ((w deepest (here p)).all (field_text p.field) p.said.there)
 
 pub ruleset lining = (line-copies, line-asks, line_wrote, line_adds, line-room, line-full, line-ends, signature_adds, signature-line, signature-place, signature-colon, signature-asks, signature-size, signature-full, signature-ends, kind-full, kind-asks, kind-ends)

@@ -1,7 +1,6 @@
 -- What the lines ask of a record that was checked, and what they leave.
 -- Assumes nothing.
-use Rattle.std.specs.Prelude.{◌≡◌, List, ◌++◌, ℕ, ◌-◌, ◌≤◌, length, take, drop}
-use Rattle.std.proofs.Math.Option.{Option}
+use Rattle.std.specs.Prelude.{◌≡◌, List, ◌++◌, ℕ, ◌-◌, ◌≤◌, length, take, drop, Option}
 use Rattle.kinds.specs.Bytes.{ascii}
 use Rattle.kinds.specs.Kind.{Kind, kind_text}
 use Rattle.model.specs.declared.Sort.{Sort}
@@ -12,8 +11,7 @@ use Rattle.record.specs.declared.Spot.{Spot}
 use Rattle.record.specs.declared.Measured.{Measured}
 use Rattle.record.specs.Texts.{tuple_text_from}
 use Rattle.record.specs.Says.{NameSaid, ListSaid, KindSaid}
-use Rattle.model.specs.declared.Answer.{Answer}
-use Rattle.model.specs.Answer.{writes, handed, refusal_number}
+use Rattle.model.specs.Answer.{writes, handed, refusal_number, Answer}
 use Rattle.model.specs.Calls.{name_output}
 use Rattle.layout.specs.Answers.{Ends}
 use Rattle.abi.specs.Writes.{Room, Wrote, FieldsRoom}

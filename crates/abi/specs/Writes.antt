@@ -1,7 +1,6 @@
 -- What the writers ask and leave: a text that the record stands for, and room for it.
 -- Assumes nothing.
-use Rattle.std.specs.Prelude.{◌≡◌, Bool, List, ℕ, ◌+◌, ◌≤◌, length, take, drop}
-use Rattle.std.proofs.Math.Option.{Option, some}
+use Rattle.std.specs.Prelude.{◌≡◌, Bool, List, ℕ, ◌+◌, ◌≤◌, length, take, drop, Option, Some}
 use Rattle.kinds.specs.Decimal.{decimal}
 use Rattle.model.specs.declared.Sort.{Sort}
 use Rattle.model.specs.Layout.{le_value}
@@ -12,17 +11,17 @@ use Rattle.record.specs.Texts.{kind_from, field_text_from, tuple_text_from}
 -- there is a text, and room for it at o
 pub record Room (t : Option (List ℕ)) (o : ℕ) (b : List ℕ) : Type 0 where
   pub text : List ℕ
-  pub same : t ≡ some text
+  pub same : t ≡ Some text
   pub room : o + length text ≤ length b
 
 -- the text is put in at o, and ends at r
 pub record Wrote (t : Option (List ℕ)) (o : ℕ) (b b₁ : List ℕ) (r : ℕ) : Type 0 where
-  pub all : (u : List ℕ) → t ≡ some u → b₁ ≡ put o u b
-  pub end : (u : List ℕ) → t ≡ some u → r ≡ o + length u
+  pub all : (u : List ℕ) → t ≡ Some u → b₁ ≡ put o u b
+  pub end : (u : List ℕ) → t ≡ Some u → r ≡ o + length u
 
 -- "Widths and lengths are plain decimal": a number of two bytes that passes a test
 unfoldable pub number_from : (ℕ → Bool) → List ℕ → Option (List ℕ)
-number_from t body = wholly 2 body (λ n. when (t n) (some (decimal n)))
+number_from t body = wholly 2 body (λ n. when (t n) (Some (decimal n)))
 
 -- the same for a base and its suffixes, in which some number of tuples may nest. The last two of what is asked follow from the first, and are there
 -- for `omega` to find

@@ -7,13 +7,13 @@ ghost use Rattle.kinds.specs.Kind.{is_bit_width, is_byte_length};
 ghost use Rattle.layout.specs.Buffer.{put};
 ghost use Rattle.record.specs.Texts.{elementary_from, suffix_from, suffixes_from};
 ghost use Rattle.abi.specs.Writes.{Room, Wrote, number_from, KindRoom, KindWrote, FieldRoom, FieldWrote, FieldsRoom, FieldsWrote};
-ghost use Rattle.model.specs.Answer.{said, outcome, after, handed, refusal_number};
+ghost use Rattle.model.specs.Answer.{said, outcome, after, handed, refusal_number, refusing};
 ghost use Rattle.abi.specs.Lines.{LineRoom, LineWrote, Lined, LineEnds, Signed, SignatureEnds, Kinded, KindEnds, NameFound};
 ghost use Rattle.model.specs.Calls.{canonical_output, signature_output, kind_text_output, name_output};
 
-use model::{Answer, Keyword, Refusal};
+use model::{Answer, Keyword, Refusal, Refused};
 use record::{Checked, Measured, Spot};
-use sizes::{BitWidth, ByteLength, CheckedLength, CheckedWidth};
+use sizes::{BitWidth, ByteLength};
 
 // Each writer writes at o and answers the place behind.
 
@@ -80,8 +80,8 @@ fn write_width(body: &[u8], out: &mut [u8], o: usize) -> usize
 {
     let c = BitWidth::new(layout::get2(body, 0) as u32);
     match c {
-        CheckedWidth::Valid(w) => write_small(out, o, w.get() as usize),
-        CheckedWidth::Invalid => o,
+        Some(w) => write_small(out, o, w.get() as usize),
+        None => o,
     }
 }
 
@@ -92,8 +92,8 @@ fn write_byte_length(body: &[u8], out: &mut [u8], o: usize) -> usize
 {
     let c = ByteLength::new(layout::get2(body, 0));
     match c {
-        CheckedLength::Valid(n) => write_small(out, o, n.get()),
-        CheckedLength::Invalid => o,
+        Some(n) => write_small(out, o, n.get()),
+        None => o,
     }
 }
 
@@ -231,12 +231,12 @@ fn write_fields(b: &[u8], out: &mut [u8], o: usize) -> usize
 // Lines.
 
 pub fn refused(refusal: Refusal) -> Answer
-    ensures { result ≡ Answer.Refused refusal 0 }
+    ensures { result ≡ refusing refusal 0 }
 {
-    Answer::Refused {
+    Err(Refused {
         refusal,
         position: 0,
-    }
+    })
 }
 
 // "Name, `(`, kinds parted by `,`, `)`": the name and the list that stand at places of the record. The place behind the line.
@@ -268,7 +268,7 @@ fn line(record: &[u8], name: Spot, inputs: Measured, text: &mut [u8]) -> Answer
         return refused(Refusal::NoRoom);
     }
     write_line(record, from, to, start, end, text);
-    Answer::Accepted { length }
+    Ok(length)
 }
 
 // "canonical text, `:`, and the outputs in brackets"
@@ -295,7 +295,7 @@ fn signature_line(
     let first = outputs.from;
     let last = outputs.to;
     write_fields(&record[first..last], text, p + 1);
-    Answer::Accepted { length }
+    Ok(length)
 }
 
 fn kind_line(record: &[u8], kind: Measured, text: &mut [u8]) -> Answer
@@ -309,7 +309,7 @@ fn kind_line(record: &[u8], kind: Measured, text: &mut [u8]) -> Answer
         return refused(Refusal::NoRoom);
     }
     write_kind(&record[from..to], text, 0);
-    Answer::Accepted { length }
+    Ok(length)
 }
 
 // The calls.

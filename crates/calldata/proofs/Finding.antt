@@ -2,7 +2,7 @@
 -- Assumes nothing.
 use mathlib.Core.Path.{◌≡◌, refl, ◌∙◌, ap, subst}
 use mathlib.Core.List.{List}
-use mathlib.Core.Option.{none, some}
+use Rattle.std.specs.Prelude.{None, Some}
 use Prim.Native.Nat.{ℕ, ◌<◌}
 use lib.ListN.{get_or}
 use Rattle.kinds.specs.Kind.{Kinds}
@@ -28,18 +28,18 @@ use Rattle.calldata.specs.Parts.{InputsAt}
 abbrev Missing : List ℕ → Declaration → Type 0
 Missing b d = (f : Kinds → Output) → of_function b f ≡ refuses WrongSort 0
 
-no_function : (b : List ℕ) (d : Declaration) → decode b ≡ some d → inputs_of d ≡ none → Missing b d
+no_function : (b : List ℕ) (d : Declaration) → decode b ≡ Some d → inputs_of d ≡ None → Missing b d
 unfolding of_function
 no_function b d e z f = ap (λ o. of_record o (λ x. of_inputs (inputs_of x) f)) e ∙ ap (λ o. of_inputs o f) z
 
-no_declaration : (b : List ℕ) → decode b ≡ none → (f : Kinds → Output) → of_function b f ≡ refuses NotWellFormed 0
+no_declaration : (b : List ℕ) → decode b ≡ None → (f : Kinds → Output) → of_function b f ≡ refuses NotWellFormed 0
 unfolding of_function
 no_declaration b e f = ap (λ o. of_record o (λ x. of_inputs (inputs_of x) f)) e
 
 module _ (b : List ℕ) (k : Checked) (i : Says b (decode b) (decode_lone b) k) where
   module _ (w : Keyword) (s : Spot) (ins outs : Measured) (e : k ≡ checked.Declared w s ins outs) where
     declares : (v : Keyword) → w ≡ v → Declares v b (decode b) s ins outs
-    declares v q = let d : Declares w b (decode b) s ins outs × (decode_lone b ≡ none) = subst (Says b (decode b) (decode_lone b)) e i in subst (λ x. Declares x b (decode b) s ins outs) q d.0
+    declares v q = let d : Declares w b (decode b) s ins outs × (decode_lone b ≡ None) = subst (Says b (decode b) (decode_lone b)) e i in subst (λ x. Declares x b (decode b) s ins outs) q d.0
 
     pub function-inputs : ((j : ℕ) → get_or b j 0 < 256) → w ≡ keyword.Function → InputsAt b ins.from ins.to
     unfolding of_function
@@ -63,10 +63,10 @@ module _ (b : List ℕ) (k : Checked) (i : Says b (decode b) (decode_lone b) k) 
     error-inputs q = no_function b _ (declares keyword.Error q).same refl
 
   pub constructor-inputs : k ≡ checked.Constructor → (f : Kinds → Output) → of_function b f ≡ refuses WrongSort 0
-  constructor-inputs e = let c : ConstructorSaid (decode b) × (decode_lone b ≡ none) = subst (Says b (decode b) (decode_lone b)) e i in no_function b _ c.0.same refl
+  constructor-inputs e = let c : ConstructorSaid (decode b) × (decode_lone b ≡ None) = subst (Says b (decode b) (decode_lone b)) e i in no_function b _ c.0.same refl
 
   pub field-inputs : (s : Spot) (l : Measured) → k ≡ checked.Field s l → (f : Kinds → Output) → of_function b f ≡ refuses NotWellFormed 0
-  field-inputs s l e = let c : (decode b ≡ none) × FieldSaid b (decode_lone b) s l = subst (Says b (decode b) (decode_lone b)) e i in no_declaration b c.0
+  field-inputs s l e = let c : (decode b ≡ None) × FieldSaid b (decode_lone b) s l = subst (Says b (decode b) (decode_lone b)) e i in no_declaration b c.0
 
   pub ill_inputs : k ≡ checked.IllFormed → (f : Kinds → Output) → of_function b f ≡ refuses NotWellFormed 0
-  ill_inputs e = let c : (decode b ≡ none) × (decode_lone b ≡ none) = subst (Says b (decode b) (decode_lone b)) e i in no_declaration b c.0
+  ill_inputs e = let c : (decode b ≡ None) × (decode_lone b ≡ None) = subst (Says b (decode b) (decode_lone b)) e i in no_declaration b c.0

@@ -1,10 +1,11 @@
 -- Data judged by what the check of the record found, and when they are accepted.
 -- Assumes nothing.
+use Rattle.std.specs.Prelude.{Ok}
 use mathlib.Core.Path.{◌≡◌, refl, sym, ◌∙◌, ap}
 use mathlib.Core.Logic.{◌↔◌}
 use mathlib.Core.Bool.{Bool, true, false, ◌||◌}
 use mathlib.Core.List.{List, [], ◌∷◌}
-use mathlib.Core.Option.{Option, none, some}
+use Rattle.std.specs.Prelude.{Option, None, Some}
 use Prim.Native.Nat.{ℕ, ◌-◌, ◌≤◌, ◌<◌}
 use native.Mathlib.Omega.{arith}
 use lib.Dec.{leb, ltb}
@@ -16,13 +17,11 @@ use Rattle.kinds.proofs.Logic.{left, right}
 use Rattle.model.specs.declared.Sort.TheVariants.{Parameter}
 use Rattle.model.specs.declared.Refusal.{Refusal}
 use Rattle.model.specs.declared.Refusal.TheVariants.{CallTooLong, NotAnEncoding}
-use Rattle.model.specs.declared.Answer.{Answer}
-use Rattle.model.specs.declared.Answer.TheVariants.{Accepted, Refused}
 use Rattle.model.specs.Tree.{Fields, kinds_of, Declaration}
 use Rattle.model.specs.Layout.{Bytes}
 use Rattle.model.specs.Reading.{deepest}
 use Rattle.model.specs.Record.{is_declaration, well_formed, decode}
-use Rattle.model.specs.Answer.{accepted, refused, Output, writes, refuses, number, said, outcome}
+use Rattle.model.specs.Answer.{accepted, refused, Output, writes, refuses, number, said, outcome, Answer, refusing}
 use Rattle.model.specs.Calls.{of_record}
 use Rattle.model.proofs.Records.{decode-exactly}
 use Rattle.model.proofs.Sound.{fields_are_kinds}
@@ -44,7 +43,7 @@ use Rattle.calldata.specs.Parts.{InputsAt, Judged}
 
 -- The call, by how it ends.
 
-refused_so : (o : Output) (r : Answer) (w : Refusal) → r ≡ Refused w 0 → o ≡ refuses w 0 → said r ≡ outcome 0 o
+refused_so : (o : Output) (r : Answer) (w : Refusal) → r ≡ refusing w 0 → o ≡ refuses w 0 → said r ≡ outcome 0 o
 unfolding said outcome
 refused_so o r w e f = rw (e, f)
 
@@ -54,7 +53,7 @@ unfolding judged_by
 within ks d h l = rw (judged_by, le-ltb most_bytes (heads_length ks) h, le-ltb most_bytes (length d) l)
 
 module _ (b d : List ℕ) (e : Extent) (x : ExtentsOf b e) where
-  pub judged_head : most_bytes < e.head → (r : Answer) → r ≡ Refused CallTooLong 0 → Judged b d r
+  pub judged_head : most_bytes < e.head → (r : Answer) → r ≡ refusing CallTooLong 0 → Judged b d r
   unfolding judged_by
   judged_head h r f fs i =
       let l : most_bytes < heads_length (kinds_of fs) = cap_cases (heads_length (kinds_of fs)) (λ m n. omega (arith, (x.all fs i).head)) (λ m n. m) in
@@ -64,16 +63,16 @@ module _ (b d : List ℕ) (e : Extent) (x : ExtentsOf b e) where
     heads-within : (fs : Fields) → FieldsAre b fs → heads_length (kinds_of fs) ≤ most_bytes
     heads-within fs i = omega (arith, cap_exact (heads_length (kinds_of fs)) e.head (sym (x.all fs i).head) h)
 
-    pub judged_long : most_bytes < length d → (r : Answer) → r ≡ Refused CallTooLong 0 → Judged b d r
+    pub judged_long : most_bytes < length d → (r : Answer) → r ≡ refusing CallTooLong 0 → Judged b d r
     unfolding judged_by
     judged_long l r f fs i = refused_so (judged_by d (kinds_of fs)) r CallTooLong f (rw (judged_by, le-ltb most_bytes (heads_length (kinds_of fs)) (heads-within fs i), lt-ltb most_bytes (length d) l))
 
     module _ (l : length d ≤ most_bytes) (t : Bool) (y : Encoded b d t) where
-      pub judged_good : t ≡ true → Judged b d (Accepted 0)
+      pub judged_good : t ≡ true → Judged b d (Ok 0)
       unfolding said outcome
       judged_good z fs i = let o : judged_by d (kinds_of fs) ≡ writes [] = within (kinds_of fs) d (heads-within fs i) l ∙ ap (λ u. elim u as (λ _. Output) [ true ↦ writes [] | false ↦ refuses NotAnEncoding 0 ]) (sym (y fs i) ∙ z) in rw o
 
-      pub judged_bad : t ≡ false → (r : Answer) → r ≡ Refused NotAnEncoding 0 → Judged b d r
+      pub judged_bad : t ≡ false → (r : Answer) → r ≡ refusing NotAnEncoding 0 → Judged b d r
       judged_bad z r f fs i =
           refused_so (judged_by d (kinds_of fs)) r NotAnEncoding f (within (kinds_of fs) d (heads-within fs i) l ∙ ap (λ u. elim u as (λ _. Output) [ true ↦ writes [] | false ↦ refuses NotAnEncoding 0 ]) (sym (y fs i) ∙ z))
 
@@ -83,7 +82,7 @@ module _ (b d : List ℕ) where
   unfolding check_output
   check_at from to i r h = rw (i.same (judged_by d)) (h i.fields i.is)
 
-  pub check_missing : (w : Refusal) → ((f : Kinds → Output) → of_function b f ≡ refuses w 0) → (r : Answer) → r ≡ Refused w 0 → said r ≡ outcome 0 (check_output b d)
+  pub check_missing : (w : Refusal) → ((f : Kinds → Output) → of_function b f ≡ refuses w 0) → (r : Answer) → r ≡ refusing w 0 → said r ≡ outcome 0 (check_output b d)
   unfolding check_output
   check_missing w h r e = refused_so (check_output b d) r w e (h (judged_by d))
 
@@ -138,10 +137,10 @@ pub accepted-exactly : (b d : List ℕ) → Bytes b → all is_byte d ≡ true �
 unfolding check_output of_function
 accepted-exactly b d B q = (λ e. to (decode b) refl ((nothing_written (check_output b d)).0 e), λ c. (nothing_written (check_output b d)).1 (from c))
   where
-    kinds : (m : ℕ) (nm : List ℕ) (ins outs : Fields) → decode b ≡ some (Declaration.function m nm ins outs) → are_kinds (kinds_of ins) ≡ true
+    kinds : (m : ℕ) (nm : List ℕ) (ins outs : Fields) → decode b ≡ Some (Declaration.function m nm ins outs) → are_kinds (kinds_of ins) ≡ true
     kinds m nm ins outs e = inputs-kinds m nm ins outs ((decode-exactly b (Declaration.function m nm ins outs) B).0 e).0
 
-    by-sort : (x : Declaration) → decode b ≡ some x → of_inputs (inputs_of x) (judged_by d) ≡ writes [] → IsCall b d
+    by-sort : (x : Declaration) → decode b ≡ Some x → of_inputs (inputs_of x) (judged_by d) ≡ writes [] → IsCall b d
     by-sort (Declaration.function m nm ins outs) e f =
         let (h, (vs, t, g)) = good-values (kinds_of ins) d (kinds m nm ins outs e) q f in
         record { mutability = m; name = nm; inputs = ins; outputs = outs; says = e; values = vs; good = t; same = g; short = h }
@@ -150,8 +149,8 @@ accepted-exactly b d B q = (λ e. to (decode b) refl ((nothing_written (check_ou
     by-sort (Declaration.error nm ins) e f = never f
 
     to : (o : Option Declaration) → decode b ≡ o → of_record o (λ x. of_inputs (inputs_of x) (judged_by d)) ≡ writes [] → IsCall b d
-    to none e f = never f
-    to (some x) e f = by-sort x e f
+    to None e f = never f
+    to (Some x) e f = by-sort x e f
 
     from : IsCall b d → check_output b d ≡ writes []
     from c =

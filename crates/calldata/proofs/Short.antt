@@ -3,7 +3,7 @@
 use mathlib.Core.Path.{◌≡◌, refl, ap}
 use mathlib.Core.Bool.{Bool, true, false}
 use mathlib.Core.List.{List}
-use mathlib.Core.Option.{Option, none, some}
+use Rattle.std.specs.Prelude.{Option, None, Some}
 use Prim.Native.Nat.{ℕ, ◌*◌, ◌<◌, ◌≤◌}
 use native.Mathlib.Omega.{arith}
 use lib.Dec.{ltb}
@@ -54,7 +54,7 @@ pub heads-short : (b u : List ℕ) → Bytes b → heads_output b ≡ writes u �
 unfolding heads_output of_function
 heads-short b u B e = go (decode b) refl e
   where
-    of_tree : (d : Declaration) → decode b ≡ some d → of_inputs (inputs_of d) heads_by ≡ writes u → 4 * length u < length b
+    of_tree : (d : Declaration) → decode b ≡ Some d → of_inputs (inputs_of d) heads_by ≡ writes u → 4 * length u < length b
     of_tree (Declaration.function m nm ins outs) q f =
         omega (arith, ap length (written (kinds_of ins) u f), heads-low ins, ap length ((decode-exactly b (Declaration.function m nm ins outs) B).0 q).1, function-long m nm ins outs)
     of_tree (Declaration.constructor m ins) q f = never f
@@ -62,5 +62,5 @@ heads-short b u B e = go (decode b) refl e
     of_tree (Declaration.error nm ins) q f = never f
 
     go : (o : Option Declaration) → decode b ≡ o → of_record o (λ d. of_inputs (inputs_of d) heads_by) ≡ writes u → 4 * length u < length b
-    go none q f = never f
-    go (some d) q f = of_tree d q f
+    go None q f = never f
+    go (Some d) q f = of_tree d q f

@@ -1,5 +1,6 @@
 -- The heads of fields, written one by one.
 -- Assumes nothing.
+use Rattle.std.specs.Prelude.{Ok}
 use mathlib.Core.Path.{◌≡◌, refl, sym, ◌∙◌, ap, subst}
 use mathlib.Core.Bool.{Bool}
 use mathlib.Core.List.{List, [], ◌∷◌, ◌++◌, append_assoc, append-nil}
@@ -11,11 +12,9 @@ use borrow.Author.Tests.{lt-ltb, le-ltb}
 use Rattle.kinds.specs.Kind.{Kind, Kinds, no_kind, more_kinds}
 use Rattle.model.specs.declared.Refusal.{Refusal}
 use Rattle.model.specs.declared.Refusal.TheVariants.{NoRoom, CallTooLong}
-use Rattle.model.specs.declared.Answer.{Answer}
-use Rattle.model.specs.declared.Answer.TheVariants.{Accepted, Refused}
 use Rattle.model.specs.Tree.{Fields, kinds_of}
 use Rattle.model.specs.Layout.{little_endian}
-use Rattle.model.specs.Answer.{Output, writes, refuses}
+use Rattle.model.specs.Answer.{Output, writes, refuses, Answer, refusing}
 use Rattle.model.proofs.Pieces.{le_length}
 use Rattle.layout.specs.Buffer.{put}
 use Rattle.layout.proofs.Puts.{length-put, put_then}
@@ -182,7 +181,7 @@ unfolding heads_by
 not-long ks h = rw (heads_by, le-ltb most_bytes (heads_length ks) h)
 
 module _ (b out : List ℕ) (e : Extent) (x : ExtentsOf b e) where
-  pub heads_too_long : most_bytes < e.head → (r : Answer) → r ≡ Refused CallTooLong 0 → HeadsEnd b out out r
+  pub heads_too_long : most_bytes < e.head → (r : Answer) → r ≡ refusing CallTooLong 0 → HeadsEnd b out out r
   heads_too_long h r f fs i =
       ends-refused (heads_by (kinds_of fs)) out r CallTooLong 0 f
       (too_long (kinds_of fs) (cap_cases (heads_length (kinds_of fs)) (λ l g. omega (arith, (x.all fs i).head)) (λ l g. l)))
@@ -192,7 +191,7 @@ module _ (b out : List ℕ) (e : Extent) (x : ExtentsOf b e) where
     within fs i = omega (arith, cap_exact (heads_length (kinds_of fs)) e.head (sym (x.all fs i).head) h)
 
     module _ (n : ℕ) (l : HeadsLong b n) where
-      pub heads-full : length out < n → (r : Answer) → r ≡ Refused NoRoom 0 → HeadsEnd b out out r
+      pub heads-full : length out < n → (r : Answer) → r ≡ refusing NoRoom 0 → HeadsEnd b out out r
       heads-full g r f fs i = ends-full (heads_by (kinds_of fs)) out r (heads_bytes (kinds_of fs)) f (not-long (kinds_of fs) (within fs i)) (omega (arith, l.all fs i))
 
       heads-room : n ≤ length out → (fs : Fields) → FieldsAre b fs → HeadsRoom b out fs
@@ -201,9 +200,9 @@ module _ (b out : List ℕ) (e : Extent) (x : ExtentsOf b e) where
       pub heads-ask : n ≤ length out → SomeFields b → SomeHeads b out
       heads-ask g q = (q.0, heads-room g q.0 q.1)
 
-      pub heads-written : n ≤ length out → (out₁ : List ℕ) → HeadsWrote b out out₁ → HeadsEnd b out out₁ (Accepted n)
+      pub heads-written : n ≤ length out → (out₁ : List ℕ) → HeadsWrote b out out₁ → HeadsEnd b out out₁ (Ok n)
       heads-written g out₁ u fs i =
-          ends-written (heads_by (kinds_of fs)) out (Accepted n) (heads_bytes (kinds_of fs)) out₁ (ap Accepted (l.all fs i)) (not-long (kinds_of fs) (within fs i)) (omega (arith, l.all fs i)) (u fs (heads-room g fs i))
+          ends-written (heads_by (kinds_of fs)) out (Ok n) (heads_bytes (kinds_of fs)) out₁ (ap Ok (l.all fs i)) (not-long (kinds_of fs) (within fs i)) (omega (arith, l.all fs i)) (u fs (heads-room g fs i))
 
 pub heads-size : (b out out₁ : List ℕ) → SomeHeads b out → HeadsWrote b out out₁ → length out₁ ≡ length out
 heads-size b out out₁ q u = ap length (u q.0 q.1) ∙ length-put 0 (heads_bytes (kinds_of q.0)) out (omega (arith, q.1.room))
@@ -216,7 +215,7 @@ module _ (b : List ℕ) where
   pub inputs-missing : (i : Inputs) → InputsAre b i → (w : Refusal) → i ≡ inputs.Missing w → (f : Kinds → Output) → of_function b f ≡ refuses w 0
   inputs-missing i h w e = subst (InputsAre b) e h
 
-  pub heads-missing : (w : Refusal) → ((f : Kinds → Output) → of_function b f ≡ refuses w 0) → (out : List ℕ) (r : Answer) → r ≡ Refused w 0 → Ends (heads_output b) out out r
+  pub heads-missing : (w : Refusal) → ((f : Kinds → Output) → of_function b f ≡ refuses w 0) → (out : List ℕ) (r : Answer) → r ≡ refusing w 0 → Ends (heads_output b) out out r
   unfolding heads_output
   heads-missing w h out r e = ends-refused (heads_output b) out r w 0 e (h heads_by)
 

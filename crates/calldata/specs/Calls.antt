@@ -1,7 +1,6 @@
 -- What the two calls on call data answer, by what `decode` says of the record. `outcome` and `after` of model's Answer say the rest.
 -- Assumes nothing.
-use Rattle.std.specs.Prelude.{◌≡◌, Bool, true, false, ◌||◌, List, [], ◌∷◌, ◌++◌, ℕ, ◌≤◌, ltb, length}
-use Rattle.std.proofs.Math.Option.{Option, none, some}
+use Rattle.std.specs.Prelude.{◌≡◌, Bool, true, false, ◌||◌, List, [], ◌∷◌, ◌++◌, ℕ, ◌≤◌, ltb, length, Option, None, Some}
 use Rattle.kinds.specs.Kind.{Kind, Kinds, no_kind, more_kinds}
 use Rattle.model.specs.declared.Refusal.TheVariants.{WrongSort, CallTooLong, NotAnEncoding}
 use Rattle.model.specs.Tree.{Fields, Declaration, kinds_of}
@@ -16,14 +15,14 @@ use Rattle.encoding.specs.Judge.{is_encoding}
 
 -- "16 also here for anything but a function"
 abbrev pub inputs_of : Declaration → Option Kinds
-inputs_of (Declaration.function m nm ins outs) = some (kinds_of ins)
-inputs_of (Declaration.constructor m ins) = none
-inputs_of (Declaration.event a nm ins) = none
-inputs_of (Declaration.error nm ins) = none
+inputs_of (Declaration.function m nm ins outs) = Some (kinds_of ins)
+inputs_of (Declaration.constructor m ins) = None
+inputs_of (Declaration.event a nm ins) = None
+inputs_of (Declaration.error nm ins) = None
 
 abbrev pub of_inputs : Option Kinds → (Kinds → Output) → Output
-of_inputs none f = refuses WrongSort 0
-of_inputs (some ks) f = f ks
+of_inputs None f = refuses WrongSort 0
+of_inputs (Some ks) f = f ks
 
 -- what f makes of the kinds of a function's inputs: "for records 15, 16"
 unfoldable pub of_function : List ℕ → (Kinds → Output) → Output
@@ -70,7 +69,7 @@ pub record IsCall (b d : List ℕ) : Type 0 where
   pub name : List ℕ
   pub inputs : Fields
   pub outputs : Fields
-  pub says : decode b ≡ some (Declaration.function mutability name inputs outputs)
+  pub says : decode b ≡ Some (Declaration.function mutability name inputs outputs)
   pub values : Values
   pub good : are_values (kinds_of inputs) values ≡ true
   pub same : d ≡ enc (Kind.tuple (kinds_of inputs)) (members values)

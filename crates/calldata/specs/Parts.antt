@@ -2,9 +2,8 @@
 -- Assumes nothing.
 use Rattle.std.specs.Prelude.{◌≡◌, List, ℕ, ◌*◌, ◌-◌, ◌≤◌, length, take, drop}
 use Rattle.kinds.specs.Kind.{Kinds}
-use Rattle.model.specs.declared.Answer.{Answer}
 use Rattle.model.specs.Tree.{Fields, kinds_of}
-use Rattle.model.specs.Answer.{Output, refuses, said, outcome}
+use Rattle.model.specs.Answer.{Output, refuses, said, outcome, Answer}
 use Rattle.layout.specs.Buffer.{put}
 use Rattle.layout.specs.Answers.{Ends}
 use Rattle.record.specs.Encoded.{FieldsAre}

@@ -119,7 +119,7 @@ fn heads_of(b: &[u8], out: &mut [u8]) -> Answer
         return abi::refused(Refusal::NoRoom);
     }
     write_heads(b, out);
-    Answer::Accepted { length }
+    Ok(length)
 }
 
 // "For a function's inputs, tell per parameter whether it is dynamic, and its head length in bytes"
@@ -149,7 +149,7 @@ fn judged(b: &[u8], data: &[u8]) -> Answer
         return abi::refused(Refusal::CallTooLong);
     }
     if judge::encoded(b, data) {
-        return Answer::Accepted { length: 0 };
+        return Ok(0);
     }
     abi::refused(Refusal::NotAnEncoding)
 }

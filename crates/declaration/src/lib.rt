@@ -1,123 +1,86 @@
-// The five reading calls. A text is read once, into an array of the call's own, and what was read is copied if all of it fits.
+// The reading call. A text is read once, into an array of the call's own, and what was read is copied if all of it fits.
 #![tactic(auto)]
 
-ghost use Rattle.std.specs.Prelude.{◌≡◌, ◌≤◌, length};
-ghost use Rattle.model.specs.Answer.{said, outcome, after};
+ghost use Rattle.std.specs.Prelude.{◌≡◌, ◌*◌, ◌+◌, ◌≤◌, length};
+ghost use Rattle.model.specs.Reading.{opening_of, keywords, wanted};
+ghost use Rattle.model.specs.Answer.{writes, said, outcome, after};
 ghost use Rattle.model.specs.Calls.{read_output};
-ghost use Rattle.declaration.specs.Outputs.{exec_output, Finished, FinishEnds, AdmittedIs, named_output, opened_output};
+ghost use Rattle.declaration.specs.Outputs.{scratch_for, exec_output, AdmittedIs};
 
-use fields::Read;
-use model::{Answer, Call, Keyword, Refusal};
+use model::{Answer, Call, Keyword, Refusal, Refused};
 
-fn refused(refusal: Refusal, position: usize) -> Answer
-    ensures { result ≡ Answer.Refused refusal position }
+// Copies a record, if all of it fits.
+#[tactic(auto, unfolding(model::specs::Answer::said, model::specs::Answer::outcome, model::specs::Answer::after, layout::specs::Buffer::put))]
+fn deliver(bytes: &[u8], record: &mut [u8]) -> Answer
+    ensures says { said result ≡ outcome (length «record».old) (writes bytes.now) }
+    ensures left { «record».new ≡ after «record».old (writes bytes.now) }
 {
-    Answer::Refused { refusal, position }
-}
-
-// Copies the record that was read into a scratch buffer.
-fn finish(r: Read, scratch: &[u8], record: &mut [u8]) -> Answer
-    requires { Finished scratch.now r }
-    ensures { FinishEnds scratch.now r «record».old «record».new result }
-{
-    match r {
-        Read::Got { next: _, len } => {
-            if record.len() < len {
-                return refused(Refusal::NoRoom, 0);
-            }
-            layout::copy(record, 0, &scratch[0..len]);
-            Answer::Accepted { length: len }
-        }
-        Read::Bad { refusal, at } => refused(refusal, at),
-        Read::Deep { at } => refused(Refusal::TooDeep, at),
+    if record.len() < bytes.len() {
+        return Err(Refusal::NoRoom.into());
     }
+    layout::copy(record, 0, bytes);
+    Ok(bytes.len())
 }
 
-// Five sizes of scratch, since an array is filled with zeros at each call: 10 bytes for each byte of text and for each tuple that may be open.
-fn tiny(text: &[u8], k: Keyword, record: &mut [u8]) -> Answer
-    requires { length text.now ≤ 64 }
+// Reads into an array of N bytes.
+fn sized<const N: usize>(text: &[u8], k: Keyword, record: &mut [u8]) -> Answer
+    requires { (scratch_for (length text.now) ≤ N) × (N ≤ scratch_for 4096) }
     ensures says { said result ≡ outcome (length «record».old) (exec_output k text.now) }
     ensures left { «record».new ≡ after «record».old (exec_output k text.now) }
 {
-    let mut scratch = [0u8; 960];
-    let r = parser::exec(text, k, &mut scratch);
-    finish(r, &scratch, record)
+    let mut scratch = [0; N];
+    let read = parser::exec(text, k, &mut scratch)?;
+    deliver(&scratch[..read.len], record)
 }
 
-fn little(text: &[u8], k: Keyword, record: &mut [u8]) -> Answer
-    requires { length text.now ≤ 128 }
-    ensures says { said result ≡ outcome (length «record».old) (exec_output k text.now) }
-    ensures left { «record».new ≡ after «record».old (exec_output k text.now) }
-{
-    let mut scratch = [0u8; 1600];
-    let r = parser::exec(text, k, &mut scratch);
-    finish(r, &scratch, record)
-}
+// "8 over 4,096 bytes"
+const LONGEST_TEXT: usize = 4096;
 
-fn small(text: &[u8], k: Keyword, record: &mut [u8]) -> Answer
-    requires { length text.now ≤ 256 }
-    ensures says { said result ≡ outcome (length «record».old) (exec_output k text.now) }
-    ensures left { «record».new ≡ after «record».old (exec_output k text.now) }
-{
-    let mut scratch = [0u8; 2880];
-    let r = parser::exec(text, k, &mut scratch);
-    finish(r, &scratch, record)
-}
+// "32 nested tuples read"
+const DEEPEST: usize = 32;
 
-fn mid(text: &[u8], k: Keyword, record: &mut [u8]) -> Answer
-    requires { length text.now ≤ 1024 }
-    ensures says { said result ≡ outcome (length «record».old) (exec_output k text.now) }
-    ensures left { «record».new ≡ after «record».old (exec_output k text.now) }
-{
-    let mut scratch = [0u8; 10560];
-    let r = parser::exec(text, k, &mut scratch);
-    finish(r, &scratch, record)
-}
+// Five sizes of array, since one is filled with zeros at each call: 10 bytes for each byte of text and for each tuple that may be open.
+const TINY_TEXT: usize = 64;
 
-fn large(text: &[u8], k: Keyword, record: &mut [u8]) -> Answer
-    requires { length text.now ≤ 4096 }
-    ensures says { said result ≡ outcome (length «record».old) (exec_output k text.now) }
-    ensures left { «record».new ≡ after «record».old (exec_output k text.now) }
-{
-    let mut scratch = [0u8; 41280];
-    let r = parser::exec(text, k, &mut scratch);
-    finish(r, &scratch, record)
-}
+const LITTLE_TEXT: usize = 128;
 
-// The short sizes apart from the long ones, so that a short text's call has a short stack. Each of the two has several callers, so that the
-// compiler keeps them apart.
+const SMALL_TEXT: usize = 256;
+
+const MID_TEXT: usize = 1024;
+
+const TINY: usize = 10 * (TINY_TEXT + DEEPEST);
+
+const LITTLE: usize = 10 * (LITTLE_TEXT + DEEPEST);
+
+const SMALL: usize = 10 * (SMALL_TEXT + DEEPEST);
+
+const MID: usize = 10 * (MID_TEXT + DEEPEST);
+
+const LARGE: usize = 10 * (LONGEST_TEXT + DEEPEST);
+
+// The short sizes apart from the long ones, so that a short text's call has a short stack.
+#[inline(never)]
 fn short(text: &[u8], k: Keyword, record: &mut [u8]) -> Answer
     requires { length text.now ≤ 256 }
     ensures says { said result ≡ outcome (length «record».old) (exec_output k text.now) }
     ensures left { «record».new ≡ after «record».old (exec_output k text.now) }
 {
-    if text.len() <= 64 {
-        return tiny(text, k, record);
+    match text.len() {
+        ..=TINY_TEXT => sized::<TINY>(text, k, record),
+        ..=LITTLE_TEXT => sized::<LITTLE>(text, k, record),
+        _ => sized::<SMALL>(text, k, record),
     }
-    if text.len() <= 128 {
-        return little(text, k, record);
-    }
-    small(text, k, record)
 }
 
+#[inline(never)]
 fn long(text: &[u8], k: Keyword, record: &mut [u8]) -> Answer
     requires { length text.now ≤ 4096 }
     ensures says { said result ≡ outcome (length «record».old) (exec_output k text.now) }
     ensures left { «record».new ≡ after «record».old (exec_output k text.now) }
 {
-    if text.len() <= 1024 {
-        return mid(text, k, record);
-    }
-    large(text, k, record)
-}
-
-// An answer made anew, so that it is handed on in registers.
-fn anew(answer: Answer) -> Answer
-    ensures { result ≡ answer }
-{
-    match answer {
-        Answer::Accepted { length } => Answer::Accepted { length },
-        Answer::Refused { refusal, position } => refused(refusal, position),
+    match text.len() {
+        ..=MID_TEXT => sized::<MID>(text, k, record),
+        _ => sized::<LARGE>(text, k, record),
     }
 }
 
@@ -126,112 +89,71 @@ fn by_size(text: &[u8], k: Keyword, record: &mut [u8]) -> Answer
     ensures says { said result ≡ outcome (length «record».old) (exec_output k text.now) }
     ensures left { «record».new ≡ after «record».old (exec_output k text.now) }
 {
-    if text.len() <= 256 {
-        return anew(short(text, k, record));
+    if text.len() <= SMALL_TEXT {
+        short(text, k, record)
+    } else {
+        long(text, k, record)
     }
-    anew(long(text, k, record))
 }
 
 // Whether a text is read at all.
-#[derive(Clone, Copy)]
-pub enum Admitted {
-    Whole,
-    Not { refusal: Refusal, at: usize },
-}
-
-fn admit(text: &[u8]) -> Admitted
+#[tactic(auto, unfolding(model::specs::Reading::admit))]
+fn admit(text: &[u8]) -> Result<(), Refused>
     ensures { AdmittedIs text.now result }
 {
-    if 4096 < text.len() {
-        return Admitted::Not {
-            refusal: Refusal::TooLong,
-            at: 0,
-        };
+    if LONGEST_TEXT < text.len() {
+        return Err(Refusal::TooLong.into());
     }
-    let n = text::valid_length(text);
-    if n < text.len() {
-        return Admitted::Not {
+    let valid = text::valid_length(text);
+    if valid < text.len() {
+        return Err(Refused {
             refusal: Refusal::NotUtf8,
-            at: n,
-        };
+            position: valid,
+        });
     }
-    Admitted::Whole
+    Ok(())
 }
 
-// A text whose keyword is wanted, whatever it begins with.
-fn parse(text: &[u8], k: Keyword, record: &mut [u8]) -> Answer
-    ensures says { said result ≡ outcome (length «record».old) (named_output k text.now) }
-    ensures left { «record».new ≡ after «record».old (named_output k text.now) }
-{
-    let a = admit(text);
-    match a {
-        Admitted::Whole => {
-            if text.len() <= 256 {
-                return anew(short(text, k, record));
-            }
-            anew(long(text, k, record))
-        }
-        Admitted::Not { refusal, at } => refused(refusal, at),
-    }
-}
-
-// `FunctionDescriptor::parse_declaration`, and so on: they skip leading blanks.
-pub fn parse_function(text: &[u8], record: &mut [u8]) -> Answer
-    ensures says { said result ≡ outcome (length «record».old) (read_output Call.Function text.now) }
-    ensures left { «record».new ≡ after «record».old (read_output Call.Function text.now) }
-{
-    parse(text, Keyword::Function, record)
-}
-
-pub fn parse_constructor(text: &[u8], record: &mut [u8]) -> Answer
-    ensures says { said result ≡ outcome (length «record».old) (read_output Call.Constructor text.now) }
-    ensures left { «record».new ≡ after «record».old (read_output Call.Constructor text.now) }
-{
-    parse(text, Keyword::Constructor, record)
-}
-
-pub fn parse_event(text: &[u8], record: &mut [u8]) -> Answer
-    ensures says { said result ≡ outcome (length «record».old) (read_output Call.Event text.now) }
-    ensures left { «record».new ≡ after «record».old (read_output Call.Event text.now) }
-{
-    parse(text, Keyword::Event, record)
-}
-
-pub fn parse_error(text: &[u8], record: &mut [u8]) -> Answer
-    ensures says { said result ≡ outcome (length «record».old) (read_output Call.Error text.now) }
-    ensures left { «record».new ≡ after «record».old (read_output Call.Error text.now) }
-{
-    parse(text, Keyword::Error, record)
-}
-
-// `Descriptor::parse_declaration`: the text starts, unskipped, with one of the four.
-pub fn parse_declaration(text: &[u8], record: &mut [u8]) -> Answer
-    ensures says { said result ≡ outcome (length «record».old) (read_output Call.General text.now) }
-    ensures left { «record».new ≡ after «record».old (read_output Call.General text.now) }
-{
-    let a = admit(text);
-    match a {
-        Admitted::Whole => opening(text, record),
-        Admitted::Not { refusal, at } => refused(refusal, at),
-    }
-}
-
-fn opening(text: &[u8], record: &mut [u8]) -> Answer
-    requires { length text.now ≤ 4096 }
-    ensures says { said result ≡ outcome (length «record».old) (opened_output text.now) }
-    ensures left { «record».new ≡ after «record».old (opened_output text.now) }
+// The keyword that a text starts with, unskipped. Not a loop over the four, since the text is compared with constants so.
+#[tactic(auto, unfolding(model::specs::Reading::keyword_text))]
+fn opening(text: &[u8]) -> Option<Keyword>
+    ensures { result ≡ opening_of keywords text.now }
 {
     if text::begins(b"function", text) {
-        return by_size(text, Keyword::Function, record);
+        Some(Keyword::Function)
+    } else if text::begins(b"constructor", text) {
+        Some(Keyword::Constructor)
+    } else if text::begins(b"event", text) {
+        Some(Keyword::Event)
+    } else if text::begins(b"error", text) {
+        Some(Keyword::Error)
+    } else {
+        None
     }
-    if text::begins(b"constructor", text) {
-        return by_size(text, Keyword::Constructor, record);
+}
+
+// The keyword that a call wants: "the general call wants the one it saw".
+#[tactic(auto, unfolding(model::specs::Reading::wanted))]
+fn wanted(call: Call, text: &[u8]) -> Option<Keyword>
+    ensures { result ≡ wanted call text.now }
+{
+    match call {
+        Call::General => opening(text),
+        Call::Function => Some(Keyword::Function),
+        Call::Constructor => Some(Keyword::Constructor),
+        Call::Event => Some(Keyword::Event),
+        Call::Error => Some(Keyword::Error),
     }
-    if text::begins(b"event", text) {
-        return by_size(text, Keyword::Event, record);
-    }
-    if text::begins(b"error", text) {
-        return by_size(text, Keyword::Error, record);
-    }
-    refused(Refusal::ExpectDeclaration, 0)
+}
+
+// The five reading calls: `Descriptor::parse_declaration`, and `FunctionDescriptor::parse_declaration` and so on, which skip leading blanks.
+pub fn read(call: Call, text: &[u8], record: &mut [u8]) -> Answer
+    ensures says { said result ≡ outcome (length «record».old) (read_output call text.now) }
+    ensures left { «record».new ≡ after «record».old (read_output call text.now) }
+{
+    admit(text)?;
+    let Some(k) = wanted(call, text) else {
+        return Err(Refusal::ExpectDeclaration.into());
+    };
+    by_size(text, k, record)
 }

@@ -4,7 +4,7 @@ use mathlib.Core.Path.{◌≡◌, refl, sym, ◌∙◌, ap, ap₂}
 use mathlib.Core.Logic.{◌↔◌}
 use mathlib.Core.Bool.{Bool, true, false}
 use mathlib.Core.List.{List, ◌++◌}
-use mathlib.Core.Option.{some}
+use Rattle.std.specs.Prelude.{Some}
 use Prim.Native.Nat.{ℕ, ◌≤◌}
 use native.Mathlib.Omega.{arith}
 use lib.Dec.{ltb}
@@ -15,14 +15,13 @@ use Rattle.kinds.specs.Kind.{Prototype, canonical}
 use Rattle.kinds.specs.Joined.{joined, Agree}
 use Rattle.model.specs.declared.Call.{Call}
 use Rattle.model.specs.declared.Call.TheVariants as call
-use Rattle.model.specs.declared.Answer.{Answer}
 use Rattle.model.specs.Tree.{Field, Declaration, name_kinds}
 use Rattle.model.specs.Parser.{got}
 use Rattle.model.specs.Reading.{longest_text, parse}
 use Rattle.model.specs.Layout.{Bytes}
 use Rattle.model.specs.Record.{encode, decode, decode_lone, well_formed}
 use Rattle.model.specs.Line.{keyword_in, canonical_text, field_text, line}
-use Rattle.model.specs.Answer.{accepted, refused, Output, writes, needed, said, outcome, after, handed, refusal_number}
+use Rattle.model.specs.Answer.{accepted, refused, Output, writes, needed, said, outcome, after, handed, refusal_number, Answer}
 use Rattle.model.specs.Calls.{written, read_output, kind_output, canonical_output, kind_text_output, AcceptedAs, AllAccepted, SameKind}
 use Rattle.model.specs.Calls as calls
 use Rattle.model.specs.Full.{full_text, full_output, Takes}
@@ -58,11 +57,11 @@ module _ (o : Output) (u : List ℕ) (e : o ≡ writes u) (room left : List ℕ)
   enough h = rw (e, outcome, le-ltb (length room) (length u) h) at says
 
 -- the record that is written of an accepted text has this line
-line_of : (c : Call) (s : List ℕ) (d : Declaration) (n : ℕ) (p : Prototype) → parse c s ≡ got d n → name_kinds d ≡ some p → canonical_output (encode 4 d) ≡ writes (canonical p)
+line_of : (c : Call) (s : List ℕ) (d : Declaration) (n : ℕ) (p : Prototype) → parse c s ≡ got d n → name_kinds d ≡ Some p → canonical_output (encode 4 d) ≡ writes (canonical p)
 unfolding canonical_output canonical_text
 line_of c s d n p e f =
     let w : well_formed d ≡ true = read-well-formed c s d n e in
-    let q : decode (encode 4 d) ≡ some d = (decode-exactly (encode 4 d) d (encode-bytes d w)).1 (w, refl) in
+    let q : decode (encode 4 d) ≡ Some d = (decode-exactly (encode 4 d) d (encode-bytes d w)).1 (w, refl) in
     rw (canonical_output, q, canonical_text, f)
 
 line-written : {s l : List ℕ} {p : Prototype} → LineOf s p l → l ≡ canonical p
@@ -135,7 +134,7 @@ module _ (s : List ℕ) (p : Prototype) (a : AcceptedAs s p) (room left : List �
       }
 
 -- and so has every well-formed function, event or error record
-pub record_lined : (b : List ℕ) (d : Declaration) (p : Prototype) → decode b ≡ some d → name_kinds d ≡ some p → (room left : List ℕ) (r : Answer) → needed (canonical_output b) ≤ length room
+pub record_lined : (b : List ℕ) (d : Declaration) (p : Prototype) → decode b ≡ Some d → name_kinds d ≡ Some p → (room left : List ℕ) (r : Answer) → needed (canonical_output b) ≤ length room
     → CanonicalRun b room left r → (said r ≡ accepted (length (canonical p))) × (take (length (canonical p)) left ≡ canonical p)
 unfolding canonical_output canonical_text needed
 record_lined b d p says same room left r h run =
@@ -146,7 +145,7 @@ record_lined b d p says same room left r h run =
 -- T4: "Its keyword, one space and its canonical text, if together at most 4,096 bytes, are accepted by the general call, given room for the record
 -- that it writes. That record has the same name, kinds and canonical text." The bytes b are a "well-formed function, event or error record", of
 -- which the canonical call wrote the line
-module _ (b : List ℕ) (d : Declaration) (p : Prototype) (bytes : Bytes b) (says : decode b ≡ some d) (same : name_kinds d ≡ some p)
+module _ (b : List ℕ) (d : Declaration) (p : Prototype) (bytes : Bytes b) (says : decode b ≡ Some d) (same : name_kinds d ≡ Some p)
     (room left : List ℕ) (r : Answer) (m : ℕ) (run : CanonicalRun b room left r) (wrote : said r ≡ accepted m) where
   line-is : take m left ≡ canonical p
   unfolding canonical_output canonical_text
@@ -201,7 +200,7 @@ kind-read-back f t c is here s room left r k run =
 
 -- Order 3: "Every field's kind text of at most 4,096 bytes must then read as the same kind." The bytes b are a well-formed field record, of which the
 -- kind-text call wrote the text
-module _ (b : List ℕ) (f : Field) (bytes : Bytes b) (says : decode_lone b ≡ some f) (room left : List ℕ) (r : Answer) (m : ℕ) (run : KindTextRun b room left r) (wrote : said r ≡ accepted m) where
+module _ (b : List ℕ) (f : Field) (bytes : Bytes b) (says : decode_lone b ≡ Some f) (room left : List ℕ) (r : Answer) (m : ℕ) (run : KindTextRun b room left r) (wrote : said r ≡ accepted m) where
   kind-is : take m left ≡ field_text f
   unfolding kind_text_output
   kind-is = (ran (kind_text_output b) (field_text f) (rw (kind_text_output, says)) room left r run.says run.leaves m wrote).1
@@ -214,7 +213,7 @@ module _ (b : List ℕ) (f : Field) (bytes : Bytes b) (says : decode_lone b ≡ 
 
 -- Order 4: "Read again, a line of at most 4,096 bytes gives the identical record." The bytes b are a well-formed declaration's record, of which the full
 -- text call wrote the line; it is read by the general call or the call named for its keyword, lent at least as many bytes as the record has
-module _ (b : List ℕ) (d : Declaration) (bytes : Bytes b) (says : decode b ≡ some d) (room left : List ℕ) (r : Answer) (m : ℕ) (run : FullRun b room left r) (wrote : said r ≡ accepted m) where
+module _ (b : List ℕ) (d : Declaration) (bytes : Bytes b) (says : decode b ≡ Some d) (room left : List ℕ) (r : Answer) (m : ℕ) (run : FullRun b room left r) (wrote : said r ≡ accepted m) where
   full_is : take m left ≡ full_text d
   unfolding full_output
   full_is = (ran (full_output b) (full_text d) (rw (full_output, says)) room left r run.says run.leaves m wrote).1

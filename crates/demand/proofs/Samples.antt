@@ -2,15 +2,15 @@
 -- Assumes nothing.
 use mathlib.Core.Path.{◌≡◌, sym, ◌∙◌, ap}
 use mathlib.Core.List.{List}
-use mathlib.Core.Option.{some, some-injective}
+use Rattle.std.specs.Prelude.{Some, slice_get}
+use Rattle.std.proofs.lemmas.Option.{same_Some}
 use Prim.Native.Nat.{ℕ, ◌≤◌}
-use lib.ListN.{length, take, get_elem?}
+use lib.ListN.{length, take}
 use Rattle.kinds.specs.Kind.{Kind, kind_text}
-use Rattle.model.specs.declared.Answer.{Answer}
 use Rattle.model.specs.Tree.{kind_of, field_of}
 use Rattle.model.specs.Record.{decode_lone}
 use Rattle.model.specs.Line.{field_text}
-use Rattle.model.specs.Answer.{accepted, writes, needed, said}
+use Rattle.model.specs.Answer.{accepted, writes, needed, said, Answer}
 use Rattle.model.specs.Calls.{kind_output, SameKind}
 use Rattle.model.proofs.Spelling.{kind-field}
 use Rattle.layout.proofs.Answers.{accepted-is}
@@ -45,7 +45,7 @@ module _ (w i : ℕ) (room left : List ℕ) (r : Answer) (n : ℕ) (run : Sample
       kind-read-back (field_of k) (take n left) c (sample_text ∙ ap kind_text (sym (kind-field k))) (ap kind_output sample_text ∙ out) s room₁ left₁ r₁ h run₁
 
 -- "Each kind of the weight appears": some index has it, at which every run that is lent enough writes its text
-pub sample_appears : (k : Kind) (w : ℕ) → weight k ≡ some w → w ≤ 4 → (i : ℕ) × ((room left : List ℕ) (r : Answer) → length (kind_text k) ≤ length room → SampleRun w i room left r
+pub sample_appears : (k : Kind) (w : ℕ) → weight k ≡ Some w → w ≤ 4 → (i : ℕ) × ((room left : List ℕ) (r : Answer) → length (kind_text k) ≤ length room → SampleRun w i room left r
     → (said r ≡ accepted (length (kind_text k))) × (take (length (kind_text k)) left ≡ kind_text k))
 sample_appears k w h high =
     let (i, at) = (sampled-exactly w k).1 h in
@@ -59,7 +59,7 @@ sample_appears k w h high =
 -- kinds whose texts are read as one are one
 same_kind : (k j : Kind) (c d : List ℕ) → c ≡ d → SameKind (field_of k) c → SameKind (field_of j) d → k ≡ j
 same_kind k j c d e s t =
-    let tree : s.tree ≡ t.tree = some-injective _ _ (sym s.says ∙ ap decode_lone e ∙ t.says) in
+    let tree : s.tree ≡ t.tree = same_Some _ _ (sym s.says ∙ ap decode_lone e ∙ t.says) in
     sym (kind-field k) ∙ sym s.same ∙ ap kind_of tree ∙ t.same ∙ kind-field j
 
 -- "none twice": two runs that wrote the same text were asked for the same
@@ -73,6 +73,6 @@ sample_once w i room left r n run wrote v j room₁ left₁ r₁ m run₁ wrote�
     let (c, out, s) = sample_back w i f.kind f.high f.at in
     let (d, out₁, t) = sample_back v j g.kind g.high g.at in
     let kind : f.kind ≡ g.kind = same_kind f.kind g.kind c d (same_bytes (sym out ∙ ap kind_output text ∙ out₁)) s t in
-    let weighs : weight g.kind ≡ some w = ap weight (sym kind) ∙ (sampled-exactly w f.kind).0 (i, f.at) in
-    let same : w ≡ v = some-injective _ _ (sym weighs ∙ (sampled-exactly v g.kind).0 (j, g.at)) in
-    (same, sampled-once v i j g.kind (ap (λ u. get_elem? (sampled u) i) (sym same) ∙ f.at ∙ ap some kind) g.at)
+    let weighs : weight g.kind ≡ Some w = ap weight (sym kind) ∙ (sampled-exactly w f.kind).0 (i, f.at) in
+    let same : w ≡ v = same_Some _ _ (sym weighs ∙ (sampled-exactly v g.kind).0 (j, g.at)) in
+    (same, sampled-once v i j g.kind (ap (λ u. slice_get (sampled u) i) (sym same) ∙ f.at ∙ ap Some kind) g.at)

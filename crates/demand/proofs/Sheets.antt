@@ -5,9 +5,8 @@ use mathlib.Core.List.{List}
 use Prim.Native.Nat.{ℕ}
 use lib.ListN.{length, take}
 use Rattle.model.specs.declared.Call.TheVariants as call
-use Rattle.model.specs.declared.Answer.{Answer}
 use Rattle.model.specs.Layout.{record_of}
-use Rattle.model.specs.Answer.{accepted, said}
+use Rattle.model.specs.Answer.{accepted, said, Answer}
 use Rattle.model.specs.Calls.{read_output}
 use Rattle.model.specs.Sheet.{lines_of, sheet_output, Singly}
 use Rattle.model.specs.Sheet as sheet

@@ -4,7 +4,7 @@ use mathlib.Core.Path.{◌≡◌, refl, sym, ◌∙◌, ap₂}
 use mathlib.Core.Logic.{◌↔◌}
 use mathlib.Core.Bool.{true}
 use mathlib.Core.List.{List, ◌++◌}
-use mathlib.Core.Option.{some}
+use Rattle.std.specs.Prelude.{Some}
 use Prim.Native.Nat.{ℕ, ◌≤◌}
 use lib.ListN.{length}
 use Rattle.kinds.specs.Bytes.{is_word}
@@ -13,12 +13,11 @@ use Rattle.kinds.proofs.Logic.{both}
 use Rattle.kinds.proofs.Signatures.{signatures_agree}
 use Rattle.model.specs.declared.Keyword.TheVariants as key
 use Rattle.model.specs.declared.Call.{Call}
-use Rattle.model.specs.declared.Answer.{Answer}
 use Rattle.model.specs.Tree.{Declaration, signature_of}
 use Rattle.model.specs.Parser.{got}
 use Rattle.model.specs.Reading.{parse}
 use Rattle.model.specs.Record.{encode, well_formed}
-use Rattle.model.specs.Answer.{writes, needed}
+use Rattle.model.specs.Answer.{writes, needed, Answer}
 use Rattle.model.specs.Calls.{written, read_output, signature_output}
 use Rattle.model.specs.Full.{Takes}
 use Rattle.model.proofs.Records.{decode-exactly, encode-bytes}
@@ -87,7 +86,7 @@ record_signed {b} {f} x room left r h run =
     }
 
 -- and every text that is read as a function has a record: the call that reads it, lent enough, writes it
-pub text-read : (s : List ℕ) (c : Call) (d : Declaration) (n : ℕ) (f : Signature) → Takes key.Function c → parse c s ≡ got d n → signature_of d ≡ some f
+pub text-read : (s : List ℕ) (c : Call) (d : Declaration) (n : ℕ) (f : Signature) → Takes key.Function c → parse c s ≡ got d n → signature_of d ≡ Some f
     → (room left : List ℕ) (r : Answer) → needed (read_output c s) ≤ length room → ReadRun c s room left r → FunctionRead s f (encode 4 d)
 unfolding read_output written needed
 text-read s c d n f t reads says room left r h run =

@@ -3,7 +3,7 @@
 use mathlib.Core.Path.{◌≡◌, ◌∙◌, subst}
 use mathlib.Core.Bool.{true}
 use mathlib.Core.List.{List, [], ◌∷◌, ◌++◌}
-use mathlib.Core.Option.{Option, none, some}
+use Rattle.std.specs.Prelude.{Option, None, Some}
 use Prim.Native.Nat.{ℕ}
 use lib.ListN.{length}
 use Rattle.kinds.specs.Kind.{canonical}
@@ -26,19 +26,19 @@ use Rattle.demand.proofs.Signatures.{function-is}
 -- pieces that the rule finds in front of anything come apart
 module _ (next : List ℕ → Option ℕ) where
   abbrev First : List ℕ → Type 0
-  First l = (rest : List ℕ) → next (l ++ rest) ≡ some (length l)
+  First l = (rest : List ℕ) → next (l ++ rest) ≡ Some (length l)
 
   abbrev AllFirst : List (List ℕ) → Type 0
   AllFirst [] = Unit {0}
   AllFirst (l ∷ ls) = First l × AllFirst ls
 
-  apart : next [] ≡ none → (ls : List (List ℕ)) → AllFirst ls → TakenApart next (end_to_end ls) ls
+  apart : next [] ≡ None → (ls : List (List ℕ)) → AllFirst ls → TakenApart next (end_to_end ls) ls
   unfolding end_to_end
   apart e [] h = nothing_left (λ r run. run.says ∙ e)
   apart e (l ∷ ls) h = one_piece (λ r run. run.says ∙ h.0 (end_to_end ls)) (apart e ls h.1)
 
 -- the line of a record is a canonical text whose name is a word
-record_first : {b l : List ℕ} → RecordLine b l → (rest : List ℕ) → next_line (l ++ rest) ≡ some (length l)
+record_first : {b l : List ℕ} → RecordLine b l → (rest : List ℕ) → next_line (l ++ rest) ≡ Some (length l)
 unfolding canonical_output canonical_text well_formed
 record_first {b} {l} x rest =
     let p = x.prototype in

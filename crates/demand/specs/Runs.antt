@@ -1,8 +1,7 @@
 -- Runs of the calls: what a call was lent, what it answered and what it left, in the form that its contract ensures; and what demand 3 and the
 -- orders 3, 4, 5 and 13 say of them.
 -- Assumes nothing.
-use Rattle.std.specs.Prelude.{◌≡◌, true, false, List, [], ◌∷◌, ◌++◌, ℕ, ◌≤◌, length, take}
-use Rattle.std.proofs.Math.Option.{some}
+use Rattle.std.specs.Prelude.{◌≡◌, true, false, List, [], ◌∷◌, ◌++◌, ℕ, ◌≤◌, length, take, Some}
 use Rattle.kinds.specs.Bytes.{space}
 use Rattle.kinds.specs.Kind.{Prototype}
 use Rattle.kinds.specs.Signatures.{Signature}
@@ -10,14 +9,13 @@ use Rattle.model.specs.declared.Keyword.{Keyword}
 use Rattle.model.specs.declared.Keyword.TheVariants as key
 use Rattle.model.specs.declared.Call.{Call}
 use Rattle.model.specs.declared.Call.TheVariants as call
-use Rattle.model.specs.declared.Answer.{Answer}
 use Rattle.model.specs.Tree.{Field, Declaration, kind_of, field_of, name_kinds, signature_of}
 use Rattle.model.specs.Parser.{got}
 use Rattle.model.specs.Reading.{keyword_text, parse}
 use Rattle.model.specs.Layout.{Bytes}
 use Rattle.model.specs.Record.{decode, decode_lone}
 use Rattle.model.specs.Line.{keyword_in}
-use Rattle.model.specs.Answer.{accepted, said, outcome, after, handed, refusal_number}
+use Rattle.model.specs.Answer.{accepted, said, outcome, after, handed, refusal_number, Answer}
 use Rattle.model.specs.Sheet.{is_blank_line, sheet_output}
 use Rattle.model.specs.Calls.{read_output, kind_output, canonical_output, signature_output, kind_text_output, name_output, AcceptedAs}
 use Rattle.model.specs.Full.{full_output, Takes}
@@ -101,9 +99,9 @@ pub record ReadBack (k : Keyword) (p : Prototype) (line left : List ℕ) (r : An
   pub n : ℕ
   pub read : said r ≡ accepted n
   pub tree : Declaration
-  pub says : decode (take n left) ≡ some tree
+  pub says : decode (take n left) ≡ Some tree
   pub keyword : keyword_in tree ≡ k
-  pub same : name_kinds tree ≡ some p
+  pub same : name_kinds tree ≡ Some p
   pub name : (nm : List ℕ) (refusal : ℕ) → NameRun (take n left) nm refusal → (nm ≡ p.name) × (refusal ≡ 0)
   pub again : (room₁ left₁ : List ℕ) (r₁ : Answer) → length line ≤ length room₁ → CanonicalRun (take n left) room₁ left₁ r₁ → (said r₁ ≡ accepted (length line)) × (take (length line) left₁ ≡ line)
 
@@ -113,7 +111,7 @@ pub record KindReadBack (f : Field) (text left : List ℕ) (r : Answer) : Type 0
   pub n : ℕ
   pub read : said r ≡ accepted n
   pub tree : Field
-  pub says : decode_lone (take n left) ≡ some tree
+  pub says : decode_lone (take n left) ≡ Some tree
   pub bare : tree ≡ field_of (kind_of f)
   pub same : kind_of tree ≡ kind_of f
   pub again : (room₁ left₁ : List ℕ) (r₁ : Answer) → length text ≤ length room₁ → KindTextRun (take n left) room₁ left₁ r₁ → (said r₁ ≡ accepted (length text)) × (take (length text) left₁ ≡ text)
@@ -135,7 +133,7 @@ pub record FunctionRead (s : List ℕ) (f : Signature) (b : List ℕ) : Type 0 w
   pub declaration : Declaration
   pub place : ℕ
   pub reads : parse call s ≡ got declaration place
-  pub says : signature_of declaration ≡ some f
+  pub says : signature_of declaration ≡ Some f
   pub room : List ℕ
   pub left : List ℕ
   pub answer : Answer
@@ -148,8 +146,8 @@ pub record FunctionRead (s : List ℕ) (f : Signature) (b : List ℕ) : Type 0 w
 pub record FunctionRecord (b : List ℕ) (f : Signature) : Type 0 where
   pub bytes : Bytes b
   pub declaration : Declaration
-  pub decoded : decode b ≡ some declaration
-  pub says : signature_of declaration ≡ some f
+  pub decoded : decode b ≡ Some declaration
+  pub says : signature_of declaration ≡ Some f
 
 -- the line l that the signature call wrote of the record b
 pub record SignatureWritten (b l : List ℕ) : Type 0 where

@@ -1,8 +1,7 @@
 -- Runs of the sampler.
 -- Assumes nothing.
 use Rattle.std.specs.Prelude.{◌≡◌, List, ℕ, length}
-use Rattle.model.specs.declared.Answer.{Answer}
-use Rattle.model.specs.Answer.{said, outcome, after}
+use Rattle.model.specs.Answer.{said, outcome, after, Answer}
 use Rattle.sampler.specs.Sampler.{sample_output}
 
 -- the sampler on a weight and an index, which was lent `room` and left it as `left`

@@ -1,34 +1,30 @@
 -- Strips taken apart: runs of the calls that tell the length of what a strip begins with, again and again on the rest.
 -- Assumes nothing.
-use Rattle.std.specs.Prelude.{◌≡◌, List, [], ◌∷◌, ◌++◌, ℕ, length, take}
-use Rattle.std.proofs.Math.Option.{Option, none, some}
+use Rattle.std.specs.Prelude.{◌≡◌, List, [], ◌∷◌, ◌++◌, ℕ, length, take, Option, None, Some}
 use Rattle.kinds.specs.Kind.{Prototype}
-use Rattle.model.specs.declared.Answer.{Answer}
 use Rattle.model.specs.Tree.{Declaration, name_kinds}
 use Rattle.model.specs.Layout.{Bytes}
 use Rattle.model.specs.Record.{decode}
-use Rattle.model.specs.Answer.{accepted, said}
-use Rattle.strip.specs.declared.Piece.{Piece}
-use Rattle.strip.specs.Strip.{piece_length}
+use Rattle.model.specs.Answer.{accepted, said, Answer}
 use Rattle.demand.specs.Runs.{CanonicalRun}
 
 -- a call that tells the length of the piece that s begins with, by the rule `next`
-pub record PieceRun (next : List ℕ → Option ℕ) (s : List ℕ) (r : Piece) : Type 0 where
-  pub says : piece_length r ≡ next s
+pub record PieceRun (next : List ℕ → Option ℕ) (s : List ℕ) (r : Option ℕ) : Type 0 where
+  pub says : r ≡ next s
 
 -- Every run of the call on the strip, and then each time on the rest, tells the lengths of these pieces, in order, and then that there is none.
 pub data TakenApart (next : List ℕ → Option ℕ) : List ℕ → List (List ℕ) → Type 0 where
-  nothing_left : ((r : Piece) → PieceRun next [] r → piece_length r ≡ none) → TakenApart next [] []
-  one_piece : {l rest : List ℕ} {ls : List (List ℕ)} → ((r : Piece) → PieceRun next (l ++ rest) r → piece_length r ≡ some (length l)) → TakenApart next rest ls
+  nothing_left : ((r : Option ℕ) → PieceRun next [] r → r ≡ None) → TakenApart next [] []
+  one_piece : {l rest : List ℕ} {ls : List (List ℕ)} → ((r : Option ℕ) → PieceRun next (l ++ rest) r → r ≡ Some (length l)) → TakenApart next rest ls
       → TakenApart next (l ++ rest) (l ∷ ls)
 
 -- bytes of any origin that are a "well-formed function, event or error record", with the line l that the canonical call wrote of it
 pub record RecordLine (b l : List ℕ) : Type 0 where
   pub bytes : Bytes b
   pub declaration : Declaration
-  pub decoded : decode b ≡ some declaration
+  pub decoded : decode b ≡ Some declaration
   pub prototype : Prototype
-  pub says : name_kinds declaration ≡ some prototype
+  pub says : name_kinds declaration ≡ Some prototype
   pub room : List ℕ
   pub left : List ℕ
   pub answer : Answer

@@ -8,36 +8,11 @@ ghost use Rattle.demand.specs.Strips.{PieceRun};
 ghost use Rattle.demand.specs.Samples.{SampleRun};
 
 use model::{Answer, Call};
-use strip::Piece;
 
-pub fn parse_declaration(text: &[u8], record: &mut [u8]) -> Answer
-    ensures { ReadRun Call.General text.now «record».old «record».new result }
+pub fn read(call: Call, text: &[u8], record: &mut [u8]) -> Answer
+    ensures { ReadRun call text.now «record».old «record».new result }
 {
-    declaration::parse_declaration(text, record)
-}
-
-pub fn parse_function(text: &[u8], record: &mut [u8]) -> Answer
-    ensures { ReadRun Call.Function text.now «record».old «record».new result }
-{
-    declaration::parse_function(text, record)
-}
-
-pub fn parse_constructor(text: &[u8], record: &mut [u8]) -> Answer
-    ensures { ReadRun Call.Constructor text.now «record».old «record».new result }
-{
-    declaration::parse_constructor(text, record)
-}
-
-pub fn parse_event(text: &[u8], record: &mut [u8]) -> Answer
-    ensures { ReadRun Call.Event text.now «record».old «record».new result }
-{
-    declaration::parse_event(text, record)
-}
-
-pub fn parse_error(text: &[u8], record: &mut [u8]) -> Answer
-    ensures { ReadRun Call.Error text.now «record».old «record».new result }
-{
-    declaration::parse_error(text, record)
+    declaration::read(call, text, record)
 }
 
 pub fn parse_kind(text: &[u8], record: &mut [u8]) -> Answer
@@ -88,13 +63,13 @@ pub fn name<'a>(record: &'a [u8], refusal: &mut u32) -> &'a [u8]
     abi::name(record, refusal)
 }
 
-pub fn next_line(strip: &[u8]) -> Piece
+pub fn next_line(strip: &[u8]) -> Option<usize>
     ensures { PieceRun next_line strip.now result }
 {
     strip::next_line(strip)
 }
 
-pub fn next_signature(strip: &[u8]) -> Piece
+pub fn next_signature(strip: &[u8]) -> Option<usize>
     ensures { PieceRun next_signature strip.now result }
 {
     strip::next_signature(strip)

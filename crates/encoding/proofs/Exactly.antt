@@ -4,7 +4,7 @@ use mathlib.Core.Path.{◌≡◌, refl, sym, ◌∙◌, ap}
 use mathlib.Core.Logic.{◌↔◌}
 use mathlib.Core.Bool.{Bool, true, ◌&&◌, and-eq-true_iff, false≢true}
 use mathlib.Core.List.{List, [], ◌∷◌, ◌++◌, append-nil}
-use mathlib.Core.Option.{Option, none, some}
+use Rattle.std.specs.Prelude.{Option, None, Some}
 use Prim.Native.Nat.{ℕ, zero, suc, ◌+◌, ◌*◌, ◌^◌, ◌≤◌, ◌<◌}
 use native.Mathlib.Nat.{pow-le-pow_right, lt_of_lt_of_le}
 use native.Mathlib.Omega.{arith}
@@ -178,9 +178,9 @@ pub encoding_exactly : (ks : Kinds) (d : List ℕ) → are_kinds ks ≡ true →
 unfolding is_encoding is_kind is_value
 encoding_exactly ks d g b = (to, from)
   where
-    ends : (o : Option ℕ) → ends_at (length d) o ≡ true → o ≡ some (length d)
-    ends none h = absurd (false≢true h)
-    ends (some e) h = ap some (eqb-true e (length d) h)
+    ends : (o : Option ℕ) → ends_at (length d) o ≡ true → o ≡ Some (length d)
+    ends None h = absurd (false≢true h)
+    ends (Some e) h = ap Some (eqb-true e (length d) h)
 
     to : is_encoding ks d ≡ true → (vs : Values) × (are_values ks vs ≡ true) × (d ≡ enc (tuple ks) (members vs))
     to h =

@@ -3,7 +3,7 @@
 use mathlib.Core.Path.{◌≡◌, refl, sym, ◌∙◌, ap}
 use mathlib.Core.Bool.{Bool, true, false, ◌&&◌, ◌||◌, false≢true, or-true}
 use mathlib.Core.List.{List, ◌++◌}
-use mathlib.Core.Option.{some}
+use Rattle.std.specs.Prelude.{Some}
 use Prim.Native.Nat.{ℕ, suc, ◌+◌, ◌*◌, ◌-◌, ◌^◌, ◌≤◌, ◌<◌}
 use native.Mathlib.Nat.{pow-le-pow_right, lt_of_lt_of_le}
 use native.Mathlib.Omega.{arith}
@@ -164,8 +164,8 @@ module _ (d : List ℕ) (all-bytes : all is_byte d ≡ true) where
   unfolding tested
   words-alike p q f at = go (has_word d at) refl
     where
-      go : (t : Bool) → has_word d at ≡ t → when (t && p (word_at d at)) (some (at + 32)) ≡ when (t && q (word_at d at)) (some (at + 32))
-      go true e = ap (λ x. when x (some (at + 32))) (f (word_at d at) (long-at d all-bytes 32 at (leb-true _ _ e)) (bytes-at d all-bytes 32 at))
+      go : (t : Bool) → has_word d at ≡ t → when (t && p (word_at d at)) (Some (at + 32)) ≡ when (t && q (word_at d at)) (Some (at + 32))
+      go true e = ap (λ x. when x (Some (at + 32))) (f (word_at d at) (long-at d all-bytes 32 at (leb-true _ _ e)) (bytes-at d all-bytes 32 at))
       go false e = refl
 
   by_bytes : (p q : List ℕ → Bool) (P : List ℕ → Type 0) → ((w : List ℕ) → length w ≡ 32 → all is_byte w ≡ true → p w ≡ q w) → Exact d (tested d p) P → Exact d (tested d q) P

@@ -3,7 +3,8 @@
 use mathlib.Core.Path.{◌≡◌, refl, sym, ◌∙◌, ap, subst}
 use mathlib.Core.Bool.{Bool, true, false, ◌&&◌, and-eq-true_iff}
 use mathlib.Core.List.{List, [], ◌∷◌, ◌++◌}
-use mathlib.Core.Option.{Option, some, some-injective}
+use Rattle.std.specs.Prelude.{Option, Some}
+use Rattle.std.proofs.lemmas.Option.{same_Some}
 use Prim.Native.Nat.{ℕ, ◌+◌, ◌-◌, ◌≤◌}
 use native.Mathlib.Nat.{add-zero}
 use native.Mathlib.Omega.{arith}
@@ -77,16 +78,16 @@ module _ (d : List ℕ) where
 
   -- members are read exactly where their parts have Q
   pub record ExactList (ss : List Slot) (Q : List Part → Type 0) : Type 0 where
-    pub sound : (base h t e : ℕ) → base ≤ t → h ≤ length d → t ≤ length d → follow d ss base h t ≡ some e → Read Q base h t e
-    pub complete : (base h t e : ℕ) → base ≤ t → Read Q base h t e → follow d ss base h t ≡ some e
+    pub sound : (base h t e : ℕ) → base ≤ t → h ≤ length d → t ≤ length d → follow d ss base h t ≡ Some e → Read Q base h t e
+    pub complete : (base h t e : ℕ) → base ≤ t → Read Q base h t e → follow d ss base h t ≡ Some e
 
   pub none-exact : (Q : List Part → Type 0) → Q [] → ((ps : List Part) → Q ps → ps ≡ []) → ExactList [] Q
   unfolding follow heads head_list joined tails
   none-exact Q q only = record {
-    sound = λ base h t e i j k z. record { ps = []; good = q; stop = h; front = stands_nil d h j; back = subst (λ x. Stands d t [] x) (some-injective _ _ z) (stands_nil d t k) };
+    sound = λ base h t e i j k z. record { ps = []; good = q; stop = h; front = stands_nil d h j; back = subst (λ x. Stands d t [] x) (same_Some _ _ z) (stands_nil d t k) };
     complete = λ base h t e i x.
         let z : Stands d t (tails []) e = rw (only x.ps x.good) at x.back in
-        ap some (omega (arith, z.end));
+        ap Some (omega (arith, z.end));
   }
 
   module _ (r : ℕ → Option ℕ) (P : List ℕ → Type 0) (one : Exact d r P) (ss : List Slot) (Q : List Part → Type 0) (rest : ExactList ss Q) (b : Bool) (Q' : List Part → Type 0)

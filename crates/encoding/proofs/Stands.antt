@@ -3,7 +3,8 @@
 use mathlib.Core.Path.{◌≡◌, refl, sym, ◌∙◌, ap}
 use mathlib.Core.Bool.{Bool, true, false, ◌&&◌, and-eq-true_iff}
 use mathlib.Core.List.{List, [], ◌∷◌, ◌++◌, append_assoc}
-use mathlib.Core.Option.{Option, none, some, none-ne-some, some-injective}
+use Rattle.std.specs.Prelude.{Option, None, Some}
+use Rattle.std.proofs.lemmas.Option.{none-some, same_Some}
 use Prim.Native.Nat.{ℕ, zero, suc, ◌+◌, ◌-◌, ◌≤◌}
 use native.Mathlib.Omega.{arith}
 use lib.Dec.{leb, eqb}
@@ -57,8 +58,8 @@ module _ (d : List ℕ) where
 
   -- r reads exactly what has P
   pub record Exact (r : ℕ → Option ℕ) (P : List ℕ → Type 0) : Type 0 where
-    pub sound : (at e : ℕ) → at ≤ length d → r at ≡ some e → (u : List ℕ) × P u × Stands d at u e
-    pub complete : (u : List ℕ) (at e : ℕ) → P u → Stands d at u e → r at ≡ some e
+    pub sound : (at e : ℕ) → at ≤ length d → r at ≡ Some e → (u : List ℕ) × P u × Stands d at u e
+    pub complete : (u : List ℕ) (at e : ℕ) → P u → Stands d at u e → r at ≡ Some e
 
   -- the same, otherwise put
   pub swap : (r : ℕ → Option ℕ) (P Q : List ℕ → Type 0) → ((u : List ℕ) → P u → Q u) → ((u : List ℕ) → Q u → P u) → Exact r P → Exact r Q
@@ -66,13 +67,13 @@ module _ (d : List ℕ) where
 
 -- a step backwards: what was there where it gave something
 module _ {A Q : Type 0} {a : A} where
-  pub when-some : (t : Bool) (o : Option A) → when t o ≡ some a → (t ≡ true → o ≡ some a → Q) → Q
+  pub when-some : (t : Bool) (o : Option A) → when t o ≡ Some a → (t ≡ true → o ≡ Some a → Q) → Q
   when-some true o e next = next refl e
-  when-some false o e next = absurd (none-ne-some a e)
+  when-some false o e next = absurd (none-some a e)
 
-  pub given-some : {X : Type 0} (o : Option X) (f : X → Option A) → given o f ≡ some a → ((x : X) → o ≡ some x → f x ≡ some a → Q) → Q
-  given-some none f e next = absurd (none-ne-some a e)
-  given-some (some x) f e next = next x refl e
+  pub given-some : {X : Type 0} (o : Option X) (f : X → Option A) → given o f ≡ Some a → ((x : X) → o ≡ Some x → f x ≡ Some a → Q) → Q
+  given-some None f e next = absurd (none-some a e)
+  given-some (Some x) f e next = next x refl e
 
 -- zeros
 pub zeros_only : (z : List ℕ) → all_are 0 z ≡ true → z ≡ replicate (length z) 0
@@ -106,17 +107,17 @@ module _ (d : List ℕ) (bytes : all is_byte d ≡ true) where
     unfolding tested
     tested-exact = record {
       sound = λ at e h q.
-          when-some (has_word d at && p (word_at d at)) (some (at + 32)) q (λ t z.
+          when-some (has_word d at && p (word_at d at)) (Some (at + 32)) q (λ t z.
           let (i, g) = (and-eq-true_iff _ _).0 t in
           let room : at + 32 ≤ length d = leb-true _ _ i in
-          let same_end : at + 32 ≡ e = some-injective _ _ z in
+          let same_end : at + 32 ≡ e = same_Some _ _ z in
           (word_at d at, to (word_at d at) (long-at 32 at room) (bytes-at 32 at) g, rw same_end at (stands-take d at 32 room)));
       complete = λ u at e x s.
           let (long, g) = from u x in
           let here : take 32 (drop at d) ≡ u = rw long at (taken d at u e s) in
           let room : at + 32 ≤ length d = omega (arith, s.end, s.inside) in
           let done : at + 32 ≡ e = omega (arith, s.end) in
-          rw (here, le-leb _ _ room, g) (ap some done);
+          rw (here, le-leb _ _ room, g) (ap Some done);
     }
 
   -- bytes with zeros behind them
@@ -128,10 +129,10 @@ module _ (d : List ℕ) (bytes : all is_byte d ≡ true) where
   filled-exact n = record {
     sound = λ at e h q.
         let m : ℕ = whole_words n in
-        when-some (leb (at + m) (length d) && all_are 0 (take (m - n) (drop (at + n) d))) (some (at + m)) q (λ t z.
+        when-some (leb (at + m) (length d) && all_are 0 (take (m - n) (drop (at + n) d))) (Some (at + m)) q (λ t z.
         let (i, g) = (and-eq-true_iff _ _).0 t in
         let room : at + m ≤ length d = leb-true _ _ i in
-        let same_end : at + n + (m - n) ≡ e = omega (arith, some-injective _ _ z) in
+        let same_end : at + n + (m - n) ≡ e = omega (arith, same_Some _ _ z) in
         let s : List ℕ = take n (drop at d) in
         let long : length s ≡ n = long-at n at (omega arith) in
         let fill : take (m - n) (drop (at + n) d) ≡ replicate (m - n) 0 = zeros_only _ g ∙ ap (λ k. replicate k 0) (long-at (m - n) (at + n) (omega arith)) in
@@ -145,5 +146,5 @@ module _ (d : List ℕ) (bytes : all is_byte d ≡ true) where
         let fill : take (m - n) (drop (at + n) d) ≡ replicate (m - n) 0 = rw length-replicate at (taken d (at + n) (replicate (m - n) 0) e back) in
         let done : at + m ≡ e = omega (arith, st₁.end, length-append s (replicate (m - n) 0), length-replicate {A = ℕ} (m - n) 0) in
         let room : at + m ≤ length d = omega (arith, st₁.inside) in
-        rw (le-leb _ _ room, fill, zeros_zero (m - n)) (ap some done);
+        rw (le-leb _ _ room, fill, zeros_zero (m - n)) (ap Some done);
   }

@@ -1,7 +1,6 @@
 -- Whether bytes are the encoding of some values, computed: each place is looked at as the encoder would set it. That this is enc is a theorem.
 -- Assumes nothing.
-use Rattle.std.specs.Prelude.{Bool, true, false, ◌&&◌, List, [], ◌∷◌, ℕ, zero, suc, ◌+◌, ◌*◌, ◌-◌, ◌/◌, leb, ltb, eqb, length, take, drop, get_or, replicate}
-use Rattle.std.proofs.Math.Option.{Option, none, some}
+use Rattle.std.specs.Prelude.{Bool, true, false, ◌&&◌, List, [], ◌∷◌, ℕ, zero, suc, ◌+◌, ◌*◌, ◌-◌, ◌/◌, leb, ltb, eqb, length, take, drop, get_or, replicate, Option, None, Some}
 use Rattle.kinds.specs.Bytes.{all, same}
 use Rattle.kinds.specs.Kind.{bits, octets, Elementary, int, uint, fixed_bytes, address, bool, function, bytes, string, sized, unsized, Kind, elementary, tuple, array, Kinds, no_kind, more_kinds}
 use Rattle.encoding.specs.Dynamic.{is_dynamic, head_length, heads_length}
@@ -36,16 +35,16 @@ is_word_of bytes w = false
 is_word_of string w = false
 
 abbrev pub given : {A B : Type 0} → Option A → (A → Option B) → Option B
-given none f = none
-given (some a) f = f a
+given None f = None
+given (Some a) f = f a
 
 abbrev pub when : {A : Type 0} → Bool → Option A → Option A
 when true r = r
-when false r = none
+when false r = None
 
 -- n times what r reads
 unfoldable pub repeated : ℕ → (ℕ → Option ℕ) → ℕ → Option ℕ
-repeated zero r at = some at
+repeated zero r at = Some at
 repeated (suc n) r at = given (r at) (λ e. repeated n r e)
 
 -- a member to be read: whether its kind is dynamic, and where it ends if it begins at a place
@@ -62,11 +61,11 @@ module _ (d : List ℕ) where
 
   -- a word that passes a test
   unfoldable pub tested : (List ℕ → Bool) → ℕ → Option ℕ
-  tested p at = when (has_word at && p (word_at at)) (some (at + 32))
+  tested p at = when (has_word at && p (word_at at)) (Some (at + 32))
 
   -- n bytes, and zeros up to the next whole word
   unfoldable pub filled : ℕ → ℕ → Option ℕ
-  filled n at = when (leb (at + whole_words n) (length d) && all_are 0 (take (whole_words n - n) (drop (at + n) d))) (some (at + whole_words n))
+  filled n at = when (leb (at + whole_words n) (length d) && all_are 0 (take (whole_words n - n) (drop (at + n) d))) (Some (at + whole_words n))
 
   -- a length, and so many bytes
   unfoldable pub string_at : ℕ → Option ℕ
@@ -84,7 +83,7 @@ module _ (d : List ℕ) where
 
   -- members one after the other: the heads from h on, the tails from t on, offsets counted from base
   unfoldable pub follow : List Slot → ℕ → ℕ → ℕ → Option ℕ
-  follow [] base h t = some t
+  follow [] base h t = Some t
   follow (slot true r ∷ ss) base h t = when (has_word h && same (word_at h) (word (t - base))) (given (r t) (λ e. follow ss base (h + 32) e))
   follow (slot false r ∷ ss) base h t = given (r h) (λ e. follow ss base e t)
 
@@ -107,13 +106,13 @@ module _ (d : List ℕ) where
 
   -- values of several kinds one behind the other: so static ones stand
   unfoldable pub in_row : Kinds → ℕ → Option ℕ
-  in_row no_kind at = some at
+  in_row no_kind at = Some at
   in_row (more_kinds k ks) at = given (end_of k at) (λ e. in_row ks e)
 
 -- what was read ends at n
 abbrev pub ends_at : ℕ → Option ℕ → Bool
-ends_at n none = false
-ends_at n (some e) = eqb e n
+ends_at n None = false
+ends_at n (Some e) = eqb e n
 
 -- the data are one encoding, and nothing stands behind it
 unfoldable pub is_encoding : Kinds → List ℕ → Bool

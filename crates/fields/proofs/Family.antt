@@ -1,103 +1,103 @@
 -- Fields, tuples and lists: one law for each way through each reader.
 -- Assumes nothing.
-use mathlib.Core.Path.{◌≡◌, refl, sym, ◌∙◌, ap, subst}
-use mathlib.Core.Bool.{true}
-use mathlib.Core.List.{List, [], ◌∷◌, ◌++◌, append_assoc}
-use Prim.Native.Nat.{ℕ, zero, suc, ◌+◌, ◌*◌, ◌-◌, ◌≤◌, ◌<◌}
-use native.Mathlib.Omega.{arith}
-use native.Mathlib.Nat.{zero-add}
-use native.Mathlib.Numerals.{sub-one}
-use lib.ListN.{length, length-append}
+use Rattle.std.proofs.Common.{◌≡◌, refl, sym, ◌∙◌, ap, subst, ℕ, zero, suc, ◌+◌, ◌*◌, ◌-◌, ◌≤◌, ◌<◌, true, false, not, eqb, List, [], ◌∷◌, ◌++◌, append_assoc, append-nil, length, take, drop, length-append, length-drop, arith, lit<}
+use Rattle.std.proofs.lemmas.Bool.Decides.{nat_tests}
+use Rattle.std.proofs.lemmas.List.{length-take-le}
+use borrow.Rule.Slice.PartMut.{put_mid, same_len_mid}
+use Rattle.std.specs.Option.{option_eq}
+use Rattle.std.specs.Prelude.{Option, None, Some, Ok, Err}
 use Rattle.kinds.specs.Bytes.{comma, lparen, rparen}
 use Rattle.kinds.specs.Kind.{Suffix}
-use Rattle.model.specs.declared.Refusal.{Refusal}
 use Rattle.model.specs.declared.Refusal.TheVariants.{ExpectClose}
+use Rattle.model.specs.declared.Refused.{Refused}
 use Rattle.model.specs.declared.Sort.{Sort}
 use Rattle.model.specs.declared.Sort.TheVariants.{Plain}
-use Rattle.model.specs.Tree.{tuple, Field, Fields, no_field, more_fields}
-use Rattle.model.specs.Parser.{Ans, got, bad, deep, Found, Parser, on_ans, then, take_char}
+use Rattle.model.specs.Tree.{tuple, Field, Fields, more_fields}
+use Rattle.model.specs.Parser.{Ans, got, bad, deep, Found, Parser, on_ans, then}
 use Rattle.model.specs.Reading.{FieldKind, run_kind, field_kind, field_by, suffixes, closing, follow, rest_by, rest, list, tuple_kind, can_specify_location}
 use Rattle.model.specs.Layout.{record_of}
 use Rattle.model.specs.Record.{encode_base, encode_suffixes, encode_field, encode_fields}
-use Rattle.layout.specs.Buffer.{put, head, Wrote}
+use Rattle.layout.specs.Buffer.{put, head}
 use Rattle.layout.proofs.Puts.{length-head, headed}
-use Rattle.layout.proofs.Writes.{wrote_none, wrote-less, wrote-lost, wrote_then, wrote-under}
-use Rattle.fields.specs.declared.Read.{Read}
-use Rattle.fields.specs.declared.Read.TheVariants.{Got, Bad, Deep}
-use Rattle.fields.specs.declared.Item.{Item}
-use Rattle.fields.specs.declared.Item.TheVariants as item
-use Rattle.fields.specs.Words.{Looked}
-use Rattle.fields.specs.Scratch.{to_read, bytes_of, Within, Closes, Room, Grows, behind_kind, leaf_of, Put, kind_bytes, NamedRoom, NamedPut, Short, longer_by, field_of, tuple_of, list_of, rest_of, IsMore, IsLast, ItemIs}
-use Rattle.fields.proofs.Ends.{seen, unseen, look-found, look-missing, close-here}
+use Rattle.text.specs.Found.{byte_or_end}
+use Rattle.fields.specs.declared.Got.{Got}
+use Rattle.fields.specs.declared.Failed.{Failed}
+use Rattle.fields.specs.declared.Failed.TheVariants.{Bad, Deep}
+use Rattle.fields.specs.declared.Seen.{Seen}
+use Rattle.fields.specs.Words.{Looked, BehindIs, TakenIs}
+use Rattle.fields.specs.Scratch.{Read, read_to, bad_at, failed, to_read, bytes_of, place_of, Within, Room, Begins, Grows, behind_kind, leaf_of, Put, kind_bytes, NamedPut, field_of, tuple_of, list_of}
+use Rattle.fields.proofs.Begins.{begins-mid, begins-part, begins-under}
+use Rattle.fields.proofs.Spots.{seen, unseen, seen-inside, behind-inside, taken-inside, refused-inside}
 
--- an answer, by what the code has of it
-pub is-got : (a : Ans (List ℕ)) (n l : ℕ) → Got n l ≡ to_read a → (a ≡ got (bytes_of a) n) × (l ≡ length (bytes_of a))
+-- Answers, by what the code has of them.
+
+-- one that is read
+pub is-got : (a : Ans (List ℕ)) (g : Got) → Ok g ≡ to_read a → (a ≡ got (bytes_of a) g.next) × (g.len ≡ length (bytes_of a))
 unfolding to_read bytes_of
-is-got (got u m) n l e = (cc, cc)
-is-got (bad w m) n l e = let z : ◌≡◌ {A = ℕ} 0 1 = cc in absurd (omega arith)
-is-got (deep m) n l e = let z : ◌≡◌ {A = ℕ} 0 1 = cc in absurd (omega arith)
+is-got (got u n) g e =
+    let f : g ≡ record { next = n; len = length u } = cc in
+    (rw (ap (λ (x : Got). x.next) f), ap (λ (x : Got). x.len) f)
+is-got (bad w n) g e = absurd cc
+is-got (deep n) g e = absurd cc
 
-pub is-bad : (a : Ans (List ℕ)) (w : Refusal) (p : ℕ) → Bad w p ≡ to_read a → a ≡ bad w p
-unfolding to_read
-is-bad (got u m) w p e = let z : ◌≡◌ {A = ℕ} 0 1 = cc in absurd (omega arith)
-is-bad (bad x m) w p e = cc
-is-bad (deep m) w p e = let z : ◌≡◌ {A = ℕ} 0 1 = cc in absurd (omega arith)
+-- one that fails
+pub is-failed : (a : Ans (List ℕ)) (f : Failed) → Err f ≡ to_read a → a ≡ failed f
+unfolding to_read failed
+is-failed (got u n) f e = absurd cc
+is-failed (bad w n) f e = let q : f ≡ bad_at w n = cc in rw q
+is-failed (deep n) f e = let q : f ≡ Deep n = cc in rw q
 
-pub is-deep : (a : Ans (List ℕ)) (p : ℕ) → Deep p ≡ to_read a → a ≡ deep p
-unfolding to_read
-is-deep (got u m) p e = let z : ◌≡◌ {A = ℕ} 0 1 = cc in absurd (omega arith)
-is-deep (bad x m) p e = let z : ◌≡◌ {A = ℕ} 0 1 = cc in absurd (omega arith)
-is-deep (deep m) p e = cc
+pub read-failed : (f : Failed) → to_read (failed f) ≡ Err f
+unfolding to_read failed
+read-failed (Bad r) = refl
+read-failed (Deep n) = refl
+
+pub bytes-failed : (f : Failed) → bytes_of (failed f) ≡ []
+unfolding bytes_of failed
+bytes-failed (Bad r) = refl
+bytes-failed (Deep n) = refl
+
+module _ {A B : Type 0} where
+  pub on-failed : (h : A → B) (f : Failed) → on_ans h (failed f) ≡ failed f
+  unfolding on_ans failed
+  on-failed h (Bad r) = refl
+  on-failed h (Deep n) = refl
+
+  pub then-failed : (f : Failed) (h : A → ℕ → Ans B) → then (failed f) h ≡ failed f
+  unfolding then failed
+  then-failed (Bad r) h = refl
+  then-failed (Deep n) h = refl
 
 -- and what was read, of which it has the bytes
-pub record Behind {A : Type 0} (f : A → List ℕ) (a : Ans A) (u : List ℕ) (n : ℕ) : Type 0 where
+pub record Behind {A : Type 0} (h : A → List ℕ) (a : Ans A) (u : List ℕ) (n : ℕ) : Type 0 where
   pub what : A
   pub same : a ≡ got what n
-  pub bytes : f what ≡ u
+  pub bytes : h what ≡ u
 
-module _ {A : Type 0} (f : A → List ℕ) where
-  pub of-got : (a : Ans A) (u : List ℕ) (n : ℕ) → on_ans f a ≡ got u n → Behind f a u n
+module _ {A : Type 0} (h : A → List ℕ) where
+  pub of-got : (a : Ans A) (u : List ℕ) (n : ℕ) → on_ans h a ≡ got u n → Behind h a u n
   unfolding on_ans
   of-got (got x m) u n e = record { what = x; same = cc; bytes = cc }
-  of-got (bad w m) u n e = let z : ◌≡◌ {A = ℕ} 0 1 = cc in absurd (omega arith)
-  of-got (deep m) u n e = let z : ◌≡◌ {A = ℕ} 0 1 = cc in absurd (omega arith)
+  of-got (bad w m) u n e = absurd cc
+  of-got (deep m) u n e = absurd cc
 
-  pub of-bad : (a : Ans A) (w : Refusal) (p : ℕ) → on_ans f a ≡ bad w p → a ≡ bad w p
-  unfolding on_ans
-  of-bad (got x m) w p e = let z : ◌≡◌ {A = ℕ} 0 1 = cc in absurd (omega arith)
-  of-bad (bad v m) w p e = cc
-  of-bad (deep m) w p e = let z : ◌≡◌ {A = ℕ} 0 1 = cc in absurd (omega arith)
+  pub of-failed : (a : Ans A) (f : Failed) → on_ans h a ≡ failed f → a ≡ failed f
+  unfolding on_ans failed
+  of-failed (got x m) (Bad r) e = absurd cc
+  of-failed (got x m) (Deep n) e = absurd cc
+  of-failed (bad w m) (Bad r) e = cc
+  of-failed (bad w m) (Deep n) e = absurd cc
+  of-failed (deep m) (Bad r) e = absurd cc
+  of-failed (deep m) (Deep n) e = cc
 
-  pub of-deep : (a : Ans A) (p : ℕ) → on_ans f a ≡ deep p → a ≡ deep p
-  unfolding on_ans
-  of-deep (got x m) p e = let z : ◌≡◌ {A = ℕ} 0 1 = cc in absurd (omega arith)
-  of-deep (bad v m) p e = let z : ◌≡◌ {A = ℕ} 0 1 = cc in absurd (omega arith)
-  of-deep (deep m) p e = cc
+-- a reader that fails, whatever it has written
+pub put-failed : (k : ℕ) (s : List ℕ) (at : ℕ) (b : List ℕ) (a : Ans (List ℕ)) (f : Failed) → place_of f ≤ length s → a ≡ failed f → Put k s at b a (Err f)
+put-failed k s at b a f l e = rw e (record { same = sym (read-failed f); within = l; wrote = rw bytes-failed refl })
 
 -- where answers lie
 within_up : (k : ℕ) (s : List ℕ) (at p : ℕ) (r : Read) → Within k s p r → at ≤ p → Within k s at r
-within_up k s at p (Got n l) w h = omega arith
-within_up k s at p (Bad x n) w h = w
-within_up k s at p (Deep n) w h = w
-
-within-longer : (s : List ℕ) (at q n : ℕ) (r : Read) → Within 10 s q r → at ≤ q → n + 10 * at ≤ 10 * q → Within 10 s at (longer_by n r)
-within-longer s at q n (Got m l) w h i = omega arith
-within-longer s at q n (Bad y m) w h i = w
-within-longer s at q n (Deep m) w h i = w
-
-short : (s : List ℕ) (at n : ℕ) (r : Read) → Within 10 s at r → length s ≤ 4096 → n ≤ 65536 → Short n r
-short s at n (Got m l) w h i = omega arith
-short s at n (Bad y m) w h i = tt
-short s at n (Deep m) w h i = tt
-
--- a refusal, of which nothing is told but what stands before o
-refused-bad : (k : ℕ) (s : List ℕ) (at o m : ℕ) (b₀ b u : List ℕ) (w : Refusal) (p : ℕ) → p ≤ length s → Wrote m b₀ b u → o ≤ m → Put k s at o b₀ b (bad w p) (Bad w p)
-unfolding to_read bytes_of
-refused-bad k s at o m b₀ b u w p l i h = record { same = refl; within = l; wrote = wrote-less o m b₀ b u i h }
-
-refused-deep : (k : ℕ) (s : List ℕ) (at o m : ℕ) (b₀ b u : List ℕ) (p : ℕ) → p ≤ length s → Wrote m b₀ b u → o ≤ m → Put k s at o b₀ b (deep p) (Deep p)
-unfolding to_read bytes_of
-refused-deep k s at o m b₀ b u p l i h = record { same = refl; within = l; wrote = wrote-less o m b₀ b u i h }
+within_up k s at p (Ok g) w h = omega arith
+within_up k s at p (Err f) w h = w
 
 -- a tuple kind admits data locations
 of-tuple : (fs : Fields) (ss : List Suffix) → can_specify_location (tuple fs) ss ≡ true
@@ -106,119 +106,124 @@ of-tuple fs (o ∷ ss) = refl
 
 tuple_located : (d : ℕ) (s : List ℕ) (p : ℕ) (k : FieldKind) (n : ℕ) → tuple_kind d s p ≡ got k n → can_specify_location k.base k.suffixes ≡ true
 unfolding tuple_kind then on_ans
-tuple_located zero s p k n e = let z : ◌≡◌ {A = ℕ} 0 1 = cc in absurd (omega arith)
+tuple_located zero s p k n e = absurd cc
 tuple_located (suc d) s p k n e = go (list (field_by Plain (tuple_kind d)) s (p + 1)) e
   where
     by : (fs : Fields) (c : Ans (List Suffix)) → on_ans (λ ss. record { base = tuple fs; suffixes = ss }) c ≡ got k n → can_specify_location k.base k.suffixes ≡ true
     by fs (got ss m) f = let g : record { base = tuple fs; suffixes = ss } ≡ k = cc in subst (λ (j : FieldKind). can_specify_location j.base j.suffixes ≡ true) g (of-tuple fs ss)
-    by fs (bad w m) f = let z : ◌≡◌ {A = ℕ} 0 1 = cc in absurd (omega arith)
-    by fs (deep m) f = let z : ◌≡◌ {A = ℕ} 0 1 = cc in absurd (omega arith)
+    by fs (bad w m) f = absurd cc
+    by fs (deep m) f = absurd cc
 
     go : (a : Ans Fields) → then a (λ fs m. on_ans (λ ss. record { base = tuple fs; suffixes = ss }) (suffixes s m)) ≡ got k n → can_specify_location k.base k.suffixes ≡ true
     go (got fs m) f = by fs (suffixes s m) f
-    go (bad w m) f = let z : ◌≡◌ {A = ℕ} 0 1 = cc in absurd (omega arith)
-    go (deep m) f = let z : ◌≡◌ {A = ℕ} 0 1 = cc in absurd (omega arith)
+    go (bad w m) f = absurd cc
+    go (deep m) f = absurd cc
+
+-- what was seen, by the code's test
+saw : (o : Option ℕ) (c : ℕ) → false ≡ not (option_eq eqb o (Some c)) → byte_or_end o ≡ c
+unfolding byte_or_end
+saw None c e = absurd cc
+saw (Some x) c e = grind (arith, nat_tests)
+
+missed : (o : Option ℕ) (c : ℕ) → c < 256 → true ≡ not (option_eq eqb o (Some c)) → byte_or_end o ≡ c → ⊥
+unfolding byte_or_end
+missed None c b e q = omega arith
+missed (Some x) c b e q = grind (arith, nat_tests)
+
+-- a tuple opens where a `(` was seen, and there is room for it
+module _ (s : List ℕ) (at : ℕ) (v : Seen) (h : Looked s at v) (g : false ≡ not (option_eq eqb v.byte (Some lparen))) where
+  pub tuple-place : v.at < length s
+  tuple-place = seen-inside s at v h lparen (lit< tt) (saw v.byte lparen g)
+
+  pub tuple_room : (d : ℕ) (b : List ℕ) → (d ≡ 0 → ⊥) → Room 0 d s at b → Room 4 (d - 1) s v.at (take (length b - 14) (drop 14 b))
+  tuple_room d b n r = record {
+    inside = h.inside;
+    small = r.small;
+    room = omega (arith, r.room, tuple-place, h.low, length-take-le (length b - 14) (drop 14 b) (omega (arith, length-drop 14 b)));
+    short = omega (arith, r.short, length-take-le (length b - 14) (drop 14 b) (omega (arith, length-drop 14 b)));
+  }
 
 -- a field
-module _ (s : List ℕ) (sort : Sort) (d at p b o : ℕ) (v : Looked s at p b) where
-  eq_leaf : (b ≡ 40 → ⊥) → field_of sort d s at ≡ leaf_of sort s p
+module _ (s : List ℕ) (at : ℕ) (sort : Sort) (d : ℕ) (v : Seen) (h : Looked s at v) where
+  pub field-leaf : (b : List ℕ) (r : Read) → true ≡ not (option_eq eqb v.byte (Some lparen)) → Put 0 s v.at b (leaf_of sort s v.at) r → Put 0 s at b (field_of sort d s at) r
   unfolding field_by behind_kind leaf_of field_kind
-  eq_leaf n =
-      let e : field_kind (tuple_kind d) s at ≡ run_kind s p = rw (field_kind, unseen s at p b lparen v n, ← v.place) in
-      ap (λ (a : Ans FieldKind). on_ans (encode_field 4) (then a (λ k n. behind_kind sort k s n))) e
+  field-leaf b r n i =
+      let e : field_kind (tuple_kind d) s at ≡ run_kind s v.at = rw (field_kind, unseen s at v h lparen (missed v.byte lparen (lit< tt) n), ← h.place) in
+      let f : field_of sort d s at ≡ leaf_of sort s v.at = ap (λ (a : Ans FieldKind). on_ans (encode_field 4) (then a (λ k n. behind_kind sort k s n))) e in
+      rw f (record { same = i.same; within = within_up 0 s at v.at r i.within h.low; wrote = i.wrote })
 
-  eq_nested : b ≡ 40 → field_of sort d s at ≡ on_ans (encode_field 4) (then (tuple_kind d s p) (λ k n. behind_kind sort k s n))
-  unfolding field_by behind_kind field_kind
-  eq_nested f =
-      let e : field_kind (tuple_kind d) s at ≡ tuple_kind d s p = rw (field_kind, seen s at p b lparen v f, ← v.place) in
-      ap (λ (a : Ans FieldKind). on_ans (encode_field 4) (then a (λ k n. behind_kind sort k s n))) e
+  module _ (g : false ≡ not (option_eq eqb v.byte (Some lparen))) where
+    eq_nested : field_of sort d s at ≡ on_ans (encode_field 4) (then (tuple_kind d s v.at) (λ k n. behind_kind sort k s n))
+    unfolding field_by behind_kind field_kind
+    eq_nested =
+        let e : field_kind (tuple_kind d) s at ≡ tuple_kind d s v.at = rw (field_kind, seen s at v h lparen (saw v.byte lparen g), ← h.place) in
+        ap (λ (a : Ans FieldKind). on_ans (encode_field 4) (then a (λ k n. behind_kind sort k s n))) e
 
-  pub field-leaf : (b₀ b₁ : List ℕ) (r : Read) → (b ≡ 40 → ⊥) → Put 0 s p o b₀ b₁ (leaf_of sort s p) r → Put 0 s at o b₀ b₁ (field_of sort d s at) r
-  field-leaf b₀ b₁ r n i = rw (eq_leaf n) (record { same = i.same; within = within_up 0 s at p r i.within v.low; wrote = i.wrote })
+    -- one tuple too many
+    pub field-deep : (b : List ℕ) → d ≡ 0 → Put 0 s at b (field_of sort d s at) (Err (Deep v.at))
+    unfolding tuple_kind then on_ans failed
+    field-deep b z = put-failed 0 s at b (field_of sort d s at) (Deep v.at) h.inside (eq_nested ∙ rw z refl)
 
-  module _ (b₀ b₁ : List ℕ) (f : Read) (g : b ≡ 40) (i : Put 14 s p (o + 14) b₀ b₁ (tuple_of d s p) f) where
-    pub named-room : (n l : ℕ) → Room 0 d s at o b₀ → f ≡ Got n l → NamedRoom s n o l b₁
-    named-room n l h e =
-        let w : (p < n) × (n ≤ length s) × (l + 14 + 10 * p ≤ 10 * n) = rw e at i.within in
-        record { inside = w.1; small = h.small; room = omega (arith, h.room, i.wrote.size, v.low); short = omega (arith, h.short, i.wrote.size) }
+    module _ (n : d ≡ 0 → ⊥) where
+      inner : suc (d - 1) ≡ d
+      inner = omega arith
 
-    pub field-named : (b₂ : List ℕ) (n l : ℕ) (r : Read) → f ≡ Got n l → NamedPut s n sort o l b₁ b₂ r → Put 0 s at o b₀ b₂ (field_of sort d s at) r
-    unfolding then
-    field-named b₂ n l r e j =
-        let w : (p < n) × (n ≤ length s) × (l + 14 + 10 * p ≤ 10 * n) = rw e at i.within in
-        let y = is-got (tuple_of d s p) n l (sym e ∙ i.same) in
-        let t = of-got kind_bytes (tuple_kind d s p) (bytes_of (tuple_of d s p)) n y.0 in
-        let c = tuple_located d s p t.what n t.same in
-        let q : length (kind_bytes t.what) ≡ l = ap length t.bytes ∙ sym y.1 in
-        let m : Within 0 s at (Got j.next (14 + j.name + l)) = omega (arith, j.inside, j.low, v.low) in
-        rw (eq_nested g, t.same) (record {
-          same = j.same t.what c q;
-          within = subst (Within 0 s at) (sym j.is) m;
-          wrote = j.wrote b₀ t.what c q (subst (Wrote (o + 14) b₀ b₁) (sym t.bytes) i.wrote);
-        })
+      -- the tuple's record stands behind room for the field's front
+      module _ (b₁ : List ℕ) where
+        pub field-failed : (f : Failed) (b : List ℕ) → Put 14 s v.at b₁ (tuple_of (suc (d - 1)) s v.at) (Err f) → Put 0 s at b (field_of sort d s at) (Err f)
+        field-failed f b i =
+            let e : tuple_kind d s v.at ≡ failed f = of-failed kind_bytes (tuple_kind d s v.at) f (is-failed (tuple_of d s v.at) f (rw inner at i.same)) in
+            put-failed 0 s at b (field_of sort d s at) f i.within (eq_nested ∙ rw (e, then-failed, on-failed))
 
-    pub field-bad : (w : Refusal) (q : ℕ) → f ≡ Bad w q → Put 0 s at o b₀ b₁ (field_of sort d s at) (Bad w q)
-    unfolding then on_ans
-    field-bad w q e = rw (eq_nested g, of-bad kind_bytes (tuple_kind d s p) w q (is-bad (tuple_of d s p) w q (sym e ∙ i.same))) (refused-bad 0 s at o (o + 14) b₀ b₁ _ w q (rw e at i.within) i.wrote (omega arith))
-
-    pub field-deep : (q : ℕ) → f ≡ Deep q → Put 0 s at o b₀ b₁ (field_of sort d s at) (Deep q)
-    unfolding then on_ans
-    field-deep q e = rw (eq_nested g, of-deep kind_bytes (tuple_kind d s p) q (is-deep (tuple_of d s p) q (sym e ∙ i.same))) (refused-deep 0 s at o (o + 14) b₀ b₁ _ q (rw e at i.within) i.wrote (omega arith))
+        pub field-named : (b₀ b₂ : List ℕ) (m : ℕ) (k g : Got) → 14 ≤ length b₀ → Put 14 s v.at b₁ (tuple_of (suc (d - 1)) s v.at) (Ok k)
+            → NamedPut s k.next sort k.len (put_mid 14 m b₀ b₁) b₂ g → Put 0 s at b₂ (field_of sort d s at) (Ok g)
+        unfolding then on_ans bytes_of
+        field-named b₀ b₂ m k g l i j =
+            let i' : Put 14 s v.at b₁ (tuple_of d s v.at) (Ok k) = rw inner at i in
+            let y = is-got (tuple_of d s v.at) k i'.same in
+            let t = of-got kind_bytes (tuple_kind d s v.at) (bytes_of (tuple_of d s v.at)) k.next y.0 in
+            let c = tuple_located d s v.at t.what k.next t.same in
+            let q : length (kind_bytes t.what) ≡ k.len = ap length t.bytes ∙ sym y.1 in
+            let w : Begins b₁ (kind_bytes t.what) = subst (Begins b₁) (sym t.bytes) i'.wrote in
+            rw (eq_nested, t.same) (record {
+              same = j.same t.what c q;
+              within = omega (arith, j.inside, j.low, j.size, i.within, h.low);
+              wrote = j.wrote t.what c q (begins-mid (kind_bytes t.what) b₀ b₁ 14 m w l);
+            })
 
 -- a tuple
-pub tuple-none : (s : List ℕ) (p d o : ℕ) (b : List ℕ) → p < length s → d ≡ 0 → Put 14 s p o b b (tuple_of d s p) (Deep p)
-unfolding tuple_kind on_ans
-tuple-none s p d o b l z = rw z (refused-deep 14 s p o o b b [] p (omega arith) (wrote_none o b) (omega arith))
-
--- what the fields of a tuple give
-module _ (d : ℕ) (s : List ℕ) (p : ℕ) (n : d ≡ 0 → ⊥) where
+module _ (s : List ℕ) (p d : ℕ) where
   fields_of : Ans Fields
-  fields_of = list (field_by Plain (tuple_kind (d - 1))) s (p + 1)
+  fields_of = list (field_by Plain (tuple_kind d)) s (p + 1)
 
-  eq_tuple : tuple_kind d s p ≡ then fields_of (λ fs m. on_ans (λ ss. record { base = tuple fs; suffixes = ss }) (suffixes s m))
+  eq_tuple : tuple_kind (suc d) s p ≡ then fields_of (λ fs m. on_ans (λ ss. record { base = tuple fs; suffixes = ss }) (suffixes s m))
   unfolding tuple_kind fields_of
-  eq_tuple = go d n
-    where
-      go : (e : ℕ) → (e ≡ 0 → ⊥) → tuple_kind e s p ≡ then (list (field_by Plain (tuple_kind (e - 1))) s (p + 1)) (λ fs m. on_ans (λ ss. record { base = tuple fs; suffixes = ss }) (suffixes s m))
-      go zero x = absurd (x refl)
-      go (suc e) x = rw sub-one
+  eq_tuple = refl
 
-  module _ (o : ℕ) (b₀ b₁ : List ℕ) (f : Read) (h : Room 14 d s p o b₀) (i : Put 10 s (p + 1) (o + 6) b₀ b₁ (list_of Plain (d - 1) s (p + 1)) f) where
-    pub tuple-bad : (w : Refusal) (q : ℕ) → f ≡ Bad w q → Put 14 s p o b₀ b₁ (tuple_of d s p) (Bad w q)
-    unfolding then on_ans fields_of
-    tuple-bad w q e = rw (eq_tuple, of-bad (encode_fields 4) fields_of w q (is-bad (list_of Plain (d - 1) s (p + 1)) w q (sym e ∙ i.same))) (refused-bad 14 s p o (o + 6) b₀ b₁ _ w q (rw e at i.within) i.wrote (omega arith))
+  pub tuple-failed : (b₁ b : List ℕ) (f : Failed) → Put 10 s (p + 1) b₁ (list_of Plain d s (p + 1)) (Err f) → Put 14 s p b (tuple_of (suc d) s p) (Err f)
+  unfolding fields_of
+  tuple-failed b₁ b f i =
+      let e : fields_of ≡ failed f = of-failed (encode_fields 4) fields_of f (is-failed (list_of Plain d s (p + 1)) f i.same) in
+      put-failed 14 s p b (tuple_of (suc d) s p) f i.within (rw (eq_tuple, e, then-failed, on-failed))
 
-    pub tuple-deep : (q : ℕ) → f ≡ Deep q → Put 14 s p o b₀ b₁ (tuple_of d s p) (Deep q)
-    unfolding then on_ans fields_of
-    tuple-deep q e = rw (eq_tuple, of-deep (encode_fields 4) fields_of q (is-deep (list_of Plain (d - 1) s (p + 1)) q (sym e ∙ i.same))) (refused-deep 14 s p o (o + 6) b₀ b₁ _ q (rw e at i.within) i.wrote (omega arith))
-
-    module _ (m l : ℕ) (e : f ≡ Got m l) where
-      paid : (p + 1 < m) × (m ≤ length s) × (l + 10 + 10 * (p + 1) ≤ 10 * m)
-      paid = rw e at i.within
-
-      pub tuple-room : o + 6 ≤ length b₁
-      tuple-room = omega (arith, h.room, i.wrote.size, paid)
-
-      pub suffix-room : (b₂ : List ℕ) → length b₂ ≡ length b₁ → Room 0 0 s m (o + 6 + l) b₂
-      suffix-room b₂ z = record { inside = paid.1; small = h.small; room = omega (arith, h.room, i.wrote.size, paid); short = omega (arith, h.short, i.wrote.size) }
-
-      pub tuple-got : (b₂ b₃ : List ℕ) (q k : ℕ) → b₂ ≡ put o (head (6 + l) 9) b₁ → Grows s m (o + 6 + l) b₂ b₃ q k → Put 14 s p o b₀ b₃ (tuple_of d s p) (Got q (6 + l + k))
-      unfolding then on_ans fields_of to_read bytes_of kind_bytes encode_base
-      tuple-got b₂ b₃ q k x g =
-          let y = is-got (list_of Plain (d - 1) s (p + 1)) m l (sym e ∙ i.same) in
-          let t = of-got (encode_fields 4) fields_of (bytes_of (list_of Plain (d - 1) s (p + 1))) m y.0 in
-          let u : List ℕ = encode_fields 4 t.what in
-          let z : 6 + l ≡ 6 + length u = omega (arith, y.1, ap length t.bytes) in
-          let w₀ : Wrote (o + 6) b₀ b₁ u = subst (Wrote (o + 6) b₀ b₁) (sym t.bytes) i.wrote in
-          let w₁ = wrote-under o (o + 6) b₀ b₁ b₂ (head (6 + l) 9) u (omega (arith, length-head (6 + l) 9, tuple-room)) (omega (arith, length-head (6 + l) 9)) w₀ x in
-          let w₂ : Wrote o b₀ b₂ (record_of 4 9 u) = subst (Wrote o b₀ b₂) (headed 9 (6 + l) u z) w₁ in
-          let c : length (record_of 4 9 u) ≡ 6 + l = ap length (sym (headed 9 (6 + l) u z)) ∙ omega (arith, length-append (head (6 + l) 9) u, length-head (6 + l) 9, z) in
-          let w₃ = wrote_then o (o + 6 + l) b₀ b₂ b₃ (record_of 4 9 u) (encode_suffixes 4 g.read) w₂ (omega (arith, c)) g.wrote in
-          rw (eq_tuple, t.same, g.same) (record {
-            same = ap (Got q) (omega (arith, length-append (record_of 4 9 u) (encode_suffixes 4 g.read), c, g.size));
-            within = omega (arith, paid, g.low, g.inside, g.paid);
-            wrote = w₃;
-          })
+  -- the fields' records stand behind the head, and the suffixes' records behind them
+  pub tuple-got : (b₀ b₁ b₂ b₃ : List ℕ) (m k : ℕ) (f g : Got) → 6 ≤ length b₀ → Put 10 s (p + 1) b₁ (list_of Plain d s (p + 1)) (Ok f) → b₂ ≡ put 0 (head (6 + f.len) 9) (put_mid 6 m b₀ b₁)
+      → Grows s f.next b₃ g → Put 14 s p (put_mid (6 + f.len) k b₂ b₃) (tuple_of (suc d) s p) (read_to g.next (6 + f.len + g.len))
+  unfolding then on_ans fields_of to_read bytes_of kind_bytes encode_base
+  tuple-got b₀ b₁ b₂ b₃ m k f g l i x j =
+      let y = is-got (list_of Plain d s (p + 1)) f i.same in
+      let t = of-got (encode_fields 4) fields_of (bytes_of (list_of Plain d s (p + 1))) f.next y.0 in
+      let u : List ℕ = encode_fields 4 t.what in
+      let z : 6 + f.len ≡ 6 + length u = omega (arith, y.1, ap length t.bytes) in
+      let w₀ : Begins b₁ u = subst (Begins b₁) (sym t.bytes) i.wrote in
+      let w₁ : Begins b₂ (head (6 + f.len) 9 ++ u) = begins-under (head (6 + f.len) 9) u (put_mid 6 m b₀ b₁) b₂ 6 (begins-mid u b₀ b₁ 6 m w₀ l) (sym (length-head (6 + f.len) 9)) x in
+      let w₂ : Begins b₂ (record_of 4 9 u) = subst (Begins b₂) (headed 9 (6 + f.len) u z) w₁ in
+      let c : length (record_of 4 9 u) ≡ 6 + f.len = ap length (sym (headed 9 (6 + f.len) u z)) ∙ omega (arith, length-append (head (6 + f.len) 9) u, length-head (6 + f.len) 9, z) in
+      rw (eq_tuple, t.same, j.same) (record {
+        same = ap (read_to g.next) (omega (arith, length-append (record_of 4 9 u) (encode_suffixes 4 j.read), c, j.size));
+        within = omega (arith, i.within, j.low, j.inside, j.paid);
+        wrote = begins-part (encode_suffixes 4 j.read) b₂ b₃ (6 + f.len) k j.wrote (record_of 4 9 u) w₂ (sym c);
+      })
 
 -- Lists.
 on-more : (f : Field) (a : Ans Fields) → on_ans (encode_fields 4) (on_ans (more_fields f) a) ≡ on_ans (λ v. encode_field 4 f ++ v) (on_ans (encode_fields 4) a)
@@ -239,143 +244,42 @@ on_twice u v (got x n) = rw append_assoc
 on_twice u v (bad w p) = refl
 on_twice u v (deep p) = refl
 
--- what follows a field, by what the field is
-module _ (R : ℕ → Ans Fields) (s : List ℕ) (at : ℕ) (a : Ans Field) where
-  follow-got : (u : List ℕ) (n : ℕ) → on_ans (encode_field 4) a ≡ got u n → on_ans (encode_fields 4) (follow R s at a) ≡ on_ans (λ v. u ++ v) (on_ans (encode_fields 4) (R n))
-  follow-got u n e =
-      let t = of-got (encode_field 4) a u n e in
-      rw t.same (on-more t.what (R n) ∙ ap (λ (x : List ℕ). on_ans (λ v. x ++ v) (on_ans (encode_fields 4) (R n))) t.bytes)
+-- what follows a field that is read
+follow-got : (R : ℕ → Ans Fields) (s : List ℕ) (at : ℕ) (a : Ans Field) (u : List ℕ) (n : ℕ) → on_ans (encode_field 4) a ≡ got u n
+    → on_ans (encode_fields 4) (follow R s at a) ≡ on_ans (λ v. u ++ v) (on_ans (encode_fields 4) (R n))
+follow-got R s at a u n e =
+    let t = of-got (encode_field 4) a u n e in
+    rw t.same (on-more t.what (R n) ∙ ap (λ (x : List ℕ). on_ans (λ v. x ++ v) (on_ans (encode_fields 4) (R n))) t.bytes)
 
-  follow-bad : (w : Refusal) (p : ℕ) → on_ans (encode_field 4) a ≡ bad w p → on_ans (encode_fields 4) (follow R s at a) ≡ on_ans (encode_fields 4) (closing s at)
-  follow-bad w p e = rw (of-bad (encode_field 4) a w p e)
-
-  follow-deep : (p : ℕ) → on_ans (encode_field 4) a ≡ deep p → on_ans (encode_fields 4) (follow R s at a) ≡ deep p
-  unfolding on_ans
-  follow-deep p e = rw (of-deep (encode_field 4) a p e)
-
--- the end of a list has no bytes
-closing-bytes : (s : List ℕ) (at : ℕ) → bytes_of (on_ans (encode_fields 4) (closing s at)) ≡ []
-unfolding closing bytes_of encode_fields on_ans
-closing-bytes s at = go (take_char rparen ExpectClose s at)
-  where
-    go : (t : Ans (Unit {0})) → bytes_of (on_ans (encode_fields 4) (on_ans (λ _. no_field) t)) ≡ []
-    go (got x n) = refl
-    go (bad w p) = refl
-    go (deep p) = refl
-
--- records u before what is read at q
-then-put : (s : List ℕ) (at q o m l : ℕ) (b₀ b₁ b₂ u : List ℕ) (r : Read) (a : Ans (List ℕ)) → Wrote o b₀ b₁ u → m ≡ o + length u → l ≡ length u → Put 10 s q m b₁ b₂ a r
-    → at ≤ q → l + 10 * at ≤ 10 * q → Put 10 s at o b₀ b₂ (on_ans (λ v. u ++ v) a) (longer_by l r)
-unfolding on_ans to_read bytes_of
-then-put s at q o m l b₀ b₁ b₂ u r (got v n) w x y i h k =
-    let e : r ≡ Got n (length v) = i.same in
-    record {
-      same = rw e (ap (Got n) (omega (arith, length-append u v)));
-      within = within-longer s at q l r i.within h k;
-      wrote = wrote_then o m b₀ b₁ b₂ u v w x i.wrote;
-    }
-then-put s at q o m l b₀ b₁ b₂ u r (bad z n) w x y i h k =
-    let e : r ≡ Bad z n = i.same in
-    rw e (record { same = refl; within = rw e at i.within; wrote = wrote-lost o m b₀ b₁ b₂ u [] w i.wrote (omega arith) })
-then-put s at q o m l b₀ b₁ b₂ u r (deep n) w x y i h k =
-    let e : r ≡ Deep n = i.same in
-    rw e (record { same = refl; within = rw e at i.within; wrote = wrote-lost o m b₀ b₁ b₂ u [] w i.wrote (omega arith) })
-
--- the end of a list is read where nothing is written
-put-closing : (s : List ℕ) (at o : ℕ) (b₀ b u : List ℕ) (r : Read) → Wrote o b₀ b u → Closes s at r → Put 10 s at o b₀ b (on_ans (encode_fields 4) (closing s at)) r
-put-closing s at o b₀ b u r w c = record { same = c.same; within = c.within; wrote = rw closing-bytes (wrote-less o o b₀ b u w (omega arith)) }
-
--- a field and what follows it
-module _ (s : List ℕ) (sort : Sort) (d from end o : ℕ) (b₀ b₁ : List ℕ) (f : Read) (h : end ≤ from) (i : Put 0 s from o b₀ b₁ (field_of sort d s from) f) where
-  abbrev F : Parser Field
-  F = field_by sort (tuple_kind d)
-
-  pub item-place : (w : Refusal) (q : ℕ) → f ≡ Bad w q → q ≤ length s
-  item-place w q e = rw e at i.within
-
-  module _ (n l : ℕ) (e : f ≡ Got n l) where
-    pub item-paid : (from < n) × (n ≤ length s) × (l + 0 + 10 * from ≤ 10 * n)
-    item-paid = rw e at i.within
-
-    is : (field_of sort d s from ≡ got (bytes_of (field_of sort d s from)) n) × (l ≡ length (bytes_of (field_of sort d s from)))
-    is = is-got (field_of sort d s from) n l (sym e ∙ i.same)
-
-    module _ (p b : ℕ) (v : Looked s n p b) where
-      pub item-more : b ≡ 44 → IsMore s sort d from end o b₀ b₁ (p + 1) n l
-      unfolding rest
-      item-more g = record {
-        u = bytes_of (field_of sort d s from);
-        size = is.1;
-        step = λ k. follow-got (rest F (suc k) s) s end (F s from) (bytes_of (field_of sort d s from)) n is.0
-            ∙ ap (λ (x : Found (Unit {0})). on_ans (λ v. bytes_of (field_of sort d s from) ++ v) (on_ans (encode_fields 4) (rest_by F (rest F k s) s n x))) (look-found s n p b comma v g);
-        wrote = i.wrote;
-        past = item-paid.0;
-        low = omega (arith, v.low);
-        inside = omega (arith, v.edge, v.inside);
-        paid = omega (arith, item-paid);
-      }
-
-      rest-closed : (b ≡ 44 → ⊥) → (k : ℕ) → rest F k s n ≡ closing s n
-      unfolding rest
-      rest-closed g zero = refl
-      rest-closed g (suc k) = ap (rest_by F (rest F k s) s n) (look-missing s n p b comma v g)
-
-      pub item-last : (r q : Read) → (b ≡ 44 → ⊥) → Closes s n r → q ≡ longer_by l r → IsLast s sort d from end o b₀ b₁ q
-      item-last r q g c x =
-          let u : List ℕ = bytes_of (field_of sort d s from) in
-          let y : Wrote (o + l) b₁ b₁ [] = wrote_none (o + l) b₁ in
-          record {
-            a = on_ans (λ v. u ++ v) (on_ans (encode_fields 4) (closing s n));
-            step = λ k. follow-got (rest F k s) s end (F s from) u n is.0 ∙ ap (λ (a : Ans Fields). on_ans (λ v. u ++ v) (on_ans (encode_fields 4) a)) (rest-closed g k);
-            put = rw x (then-put s end n o (o + l) l b₀ b₁ b₁ u r (on_ans (encode_fields 4) (closing s n)) i.wrote (omega (arith, is.1)) is.1
-                (put-closing s n (o + l) b₁ b₁ [] r y c) (omega (arith, item-paid)) (omega (arith, item-paid)));
-          }
-
-      pub item-closed : b ≡ 41 → IsLast s sort d from end o b₀ b₁ (Got (p + 1) l)
-      item-closed g = item-last (Got (p + 1) 0) (Got (p + 1) l) (λ z. omega arith) (close-here s n p b v g) (ap (Got (p + 1)) (sym (zero-add l)))
-
-  pub item-none : (w : Refusal) (p : ℕ) (r : Read) → f ≡ Bad w p → Closes s end r → IsLast s sort d from end o b₀ b₁ r
-  item-none w p r e c = record {
-    a = on_ans (encode_fields 4) (closing s end);
-    step = λ k. follow-bad (rest F k s) s end (F s from) w p (is-bad (field_of sort d s from) w p (sym e ∙ i.same));
-    put = put-closing s end o b₀ b₁ _ r i.wrote c;
-  }
-
-  pub item-deep : (p : ℕ) → f ≡ Deep p → IsLast s sort d from end o b₀ b₁ (Deep p)
-  item-deep p e = record {
-    a = deep p;
-    step = λ k. follow-deep (rest F k s) s end (F s from) p (is-deep (field_of sort d s from) p (sym e ∙ i.same));
-    put = refused-deep 10 s end o o b₀ b₁ _ p (rw e at i.within) i.wrote (omega arith);
-  }
-
-pub short-close : (s : List ℕ) (at n : ℕ) (r : Read) → Closes s at r → length s ≤ 4096 → n ≤ 65536 → Short n r
-short-close s at n r c h i = short s at n r c.within h i
+-- the rest of a list, at most k commas, where the next field is read from `from` and the list closes at `end` if that fails
+abbrev pub rest_of : Sort → ℕ → List ℕ → ℕ → ℕ → ℕ → Ans (List ℕ)
+rest_of sort d s k from end = let F = field_by sort (tuple_kind d) in on_ans (encode_fields 4) (follow (rest F k s) s end (F s from))
 
 -- of a list the fields before `from` are read, and their records u are written
-pub record SoFar (s : List ℕ) (sort : Sort) (d at o : ℕ) (b₀ : List ℕ) (from end len : ℕ) (b : List ℕ) : Type 0 where
+pub record SoFar (s : List ℕ) (at : ℕ) (sort : Sort) (d : ℕ) (b : List ℕ) (from end len : ℕ) : Type 0 where
   pub u : List ℕ
   pub fuel : ℕ
   pub enough : length s ≤ fuel + from
   pub whole : list_of sort d s at ≡ on_ans (λ v. u ++ v) (rest_of sort d s fuel from end)
   pub size : len ≡ length u
-  pub wrote : Wrote o b₀ b u
+  pub wrote : Begins b u
   pub first : at ≤ end
   pub low : end ≤ from
   pub inside : from ≤ length s
   pub paid : len + 10 * at ≤ 10 * end
   pub small : length s ≤ 4096
-  pub room : o + len + 10 * (length s - from) + 10 * d ≤ length b
+  pub room : len + 10 * (length s - from) + 10 * d ≤ length b
   pub short : length b ≤ 65536
 
-pub so_start : (s : List ℕ) (sort : Sort) (d at o : ℕ) (b : List ℕ) → Room 0 d s at o b → SoFar s sort d at o b at at 0 b
+pub so_start : (s : List ℕ) (at : ℕ) (sort : Sort) (d : ℕ) (b : List ℕ) → Room 0 d s at b → SoFar s at sort d b at at 0
 unfolding list
-so_start s sort d at o b h = record {
+so_start s at sort d b h = record {
   u = [];
   fuel = length s;
   enough = omega arith;
   whole = on_none (rest_of sort d s (length s) at at);
   size = refl;
-  wrote = wrote_none o b;
+  wrote = refl;
   first = omega arith;
   low = omega arith;
   inside = h.inside;
@@ -385,63 +289,120 @@ so_start s sort d at o b h = record {
   short = h.short;
 }
 
-module _ (s : List ℕ) (sort : Sort) (d at o : ℕ) (b₀ : List ℕ) (from end len : ℕ) (b₁ b₂ : List ℕ) (i : Item) (g : SoFar s sort d at o b₀ from end len b₁)
-    (j : ItemIs s sort d from end (o + len) b₁ b₂ i) where
-  next : (f c l k : ℕ) → length s ≤ k + from → list_of sort d s at ≡ on_ans (λ v. g.u ++ v) (rest_of sort d s k from end) → IsMore s sort d from end (o + len) b₁ b₂ f c l
-      → SoFar s sort d at o b₀ f c (len + l) b₂
-  next f c l zero h e m = absurd (omega (arith, m.past, m.low, m.inside))
-  next f c l (suc k) h e m = record {
-    u = g.u ++ m.u;
-    fuel = k;
-    enough = omega (arith, m.past, m.low);
-    whole = e ∙ ap (on_ans (λ v. g.u ++ v)) (m.step k) ∙ on_twice g.u m.u (rest_of sort d s k f c);
-    size = omega (arith, g.size, m.size, length-append g.u m.u);
-    wrote = wrote_then o (o + len) b₀ b₁ b₂ g.u m.u g.wrote (omega (arith, g.size)) m.wrote;
-    first = omega (arith, g.first, g.low, m.past);
-    low = omega (arith, m.low);
-    inside = m.inside;
-    paid = omega (arith, g.paid, g.low, m.paid);
-    small = g.small;
-    room = omega (arith, g.room, m.wrote.size, m.paid, m.low, m.inside);
-    short = omega (arith, g.short, m.wrote.size);
-  }
+-- the end of a list, by what the code took for its `)`
+closing-failed : (s : List ℕ) (at : ℕ) (v : Seen) → Looked s at v → (r : Refused) → TakenIs v rparen ExpectClose (Err r) → on_ans (encode_fields 4) (closing s at) ≡ failed (Bad r)
+unfolding closing on_ans failed
+closing-failed s at v h r i = rw (closing, ← i.same s at h)
 
-  module _ (f c l : ℕ) (e : i ≡ item.More f c l) where
-    more : IsMore s sort d from end (o + len) b₁ b₂ f c l
-    more = rw e at j
+closing-got : (s : List ℕ) (at : ℕ) (v : Seen) → Looked s at v → (n : ℕ) → TakenIs v rparen ExpectClose (Ok n) → on_ans (encode_fields 4) (closing s at) ≡ got [] n
+unfolding closing on_ans encode_fields
+closing-got s at v h n i = rw (closing, ← i.same s at h)
 
-    pub so_more : SoFar s sort d at o b₀ f c (len + l) b₂
-    so_more = next f c l g.fuel g.enough g.whole more
+-- the next field is written behind the ones before it, as the bytes b₁
+module _ (s : List ℕ) (at : ℕ) (sort : Sort) (d : ℕ) (b₀ : List ℕ) (from end len : ℕ) (g : SoFar s at sort d b₀ from end len) (b₁ : List ℕ) (m : ℕ) where
+  abbrev F : Parser Field
+  F = field_by sort (tuple_kind d)
 
-    pub so_less : length s - f < length s - from
-    so_less = omega (arith, more.past, more.low, more.inside)
+  -- what is known of the rest
+  whole-failed : (f : Failed) → rest_of sort d s g.fuel from end ≡ failed f → list_of sort d s at ≡ failed f
+  whole-failed f e = g.whole ∙ rw (e, on-failed)
 
-    pub so_fits : len + l < 18446744073709551616
-    so_fits = omega (arith, g.room, g.short, more.paid, more.low, more.inside, g.small)
+  whole-got : (v : List ℕ) (n : ℕ) → rest_of sort d s g.fuel from end ≡ got v n → list_of sort d s at ≡ got (g.u ++ v) n
+  unfolding on_ans
+  whole-got v n e = g.whole ∙ rw e
 
-  ended : (r q : Read) → IsLast s sort d from end (o + len) b₁ b₂ r → q ≡ longer_by len r → Put 10 s at o b₀ b₂ (list_of sort d s at) q
-  ended r q z x =
-      rw (x, g.whole, z.step g.fuel)
-      (then-put s at end o (o + len) len b₀ b₁ b₂ g.u r z.a g.wrote (omega (arith, g.size)) g.size z.put g.first g.paid)
+  -- records v are written, and the list ends at n
+  ended : (v : List ℕ) (n l : ℕ) → rest_of sort d s g.fuel from end ≡ got v n → Begins b₁ v → l ≡ len + length v → at < n → n ≤ length s → l + 10 + 10 * at ≤ 10 * n
+      → Put 10 s at (put_mid len m b₀ b₁) (list_of sort d s at) (read_to n l)
+  unfolding to_read bytes_of
+  ended v n l e w x y z q = rw (whole-got v n e) (record {
+    same = ap (read_to n) (omega (arith, g.size, length-append g.u v));
+    within = omega arith;
+    wrote = begins-part v b₀ b₁ len m w g.u g.wrote g.size;
+  })
 
-  module _ (r : Read) (e : i ≡ item.Last r) where
-    last : IsLast s sort d from end (o + len) b₁ b₂ r
-    last = rw e at j
+  pub list-deep : (b : List ℕ) (p : ℕ) → Put 0 s from b₁ (field_of sort d s from) (Err (Deep p)) → Put 10 s at b (list_of sort d s at) (Err (Deep p))
+  unfolding on_ans failed
+  list-deep b p i =
+      let e : F s from ≡ deep p = of-failed (encode_field 4) (F s from) (Deep p) (is-failed (field_of sort d s from) (Deep p) i.same) in
+      put-failed 10 s at b (list_of sort d s at) (Deep p) i.within (whole-failed (Deep p) (rw e refl))
 
-    pub so_short : Short len r
-    so_short = short s end len r last.put.within g.small (omega (arith, g.room, g.short))
+  -- no field stands there: the list ends before it
+  module _ (w : Refused) (i : Put 0 s from b₁ (field_of sort d s from) (Err (Bad w))) (v : Seen) (h : Looked s end v) where
+    rest-closes : rest_of sort d s g.fuel from end ≡ on_ans (encode_fields 4) (closing s end)
+    unfolding failed
+    rest-closes =
+        let e : F s from ≡ bad w.refusal w.position = of-failed (encode_field 4) (F s from) (Bad w) (is-failed (field_of sort d s from) (Bad w) i.same) in
+        rw e
 
-    pub so_last : (q : Read) → q ≡ longer_by len r → Put 10 s at o b₀ b₂ (list_of sort d s at) q
-    so_last q x = ended r q last x
+    pub list-open : (b : List ℕ) (r : Refused) → TakenIs v rparen ExpectClose (Err r) → Put 10 s at b (list_of sort d s at) (Err (Bad r))
+    list-open b r j = put-failed 10 s at b (list_of sort d s at) (Bad r) (refused-inside s end v h rparen ExpectClose r j) (whole-failed (Bad r) (rest-closes ∙ closing-failed s end v h r j))
 
-  module _ (n l : ℕ) (e : i ≡ item.Closed n l) where
-    closed : IsLast s sort d from end (o + len) b₁ b₂ (Got n l)
-    closed = rw e at j
+    pub list-shut : (n : ℕ) → TakenIs v rparen ExpectClose (Ok n) → Put 10 s at (put_mid len m b₀ b₁) (list_of sort d s at) (read_to n len)
+    list-shut n j =
+        let k = taken-inside s end v h rparen n (lit< tt) ExpectClose j in
+        ended [] n len (rest-closes ∙ closing-got s end v h n j) refl (omega arith) (omega (arith, k, g.first)) k.1 (omega (arith, k, g.paid))
 
-    pub so_closed-fits : len + l < 18446744073709551616
-    so_closed-fits = let z : l + len < 18446744073709551616 = short s end len (Got n l) closed.put.within g.small (omega (arith, g.room, g.short)) in omega arith
+  -- a field stands there
+  module _ (k : Got) (i : Put 0 s from b₁ (field_of sort d s from) (Ok k)) (v : Seen) (h : Looked s k.next v) where
+    abbrev u : List ℕ
+    u = bytes_of (field_of sort d s from)
 
-    pub so_closed : Put 10 s at o b₀ b₂ (list_of sort d s at) (Got n (len + l))
-    so_closed = ended (Got n l) (Got n (len + l)) closed (ap (Got n) (omega arith))
+    is : (field_of sort d s from ≡ got u k.next) × (k.len ≡ length u)
+    is = is-got (field_of sort d s from) k i.same
 
-pub ruleset family = (item-place, so_closed-fits, so_closed, item-closed, field-leaf, named-room, field-named, field-bad, field-deep, tuple-none, tuple-bad, tuple-deep, tuple-room, suffix-room, tuple-got, item-more, item-last, item-none, item-deep, so_start, so_more, so_less, so_fits, so_short, so_last)
+    after-got : (n : ℕ) → rest_of sort d s n from end ≡ on_ans (λ x. u ++ x) (on_ans (encode_fields 4) (rest F n s k.next))
+    after-got n = follow-got (rest F n s) s end (F s from) u k.next is.0
+
+    -- no `,` follows it
+    module _ (c : BehindIs v comma None) where
+      rest-closed : (n : ℕ) → rest F n s k.next ≡ closing s k.next
+      unfolding rest
+      rest-closed zero = refl
+      rest-closed (suc n) = ap (rest_by F (rest F n s) s k.next) (sym (c.same s k.next h))
+
+      after-closes : rest_of sort d s g.fuel from end ≡ on_ans (λ x. u ++ x) (on_ans (encode_fields 4) (closing s k.next))
+      after-closes = after-got g.fuel ∙ rw rest-closed
+
+      pub list-unclosed : (b : List ℕ) (r : Refused) → TakenIs v rparen ExpectClose (Err r) → Put 10 s at b (list_of sort d s at) (Err (Bad r))
+      list-unclosed b r j =
+          let e : rest_of sort d s g.fuel from end ≡ failed (Bad r) = after-closes ∙ rw (closing-failed s k.next v h r j, on-failed) in
+          put-failed 10 s at b (list_of sort d s at) (Bad r) (refused-inside s k.next v h rparen ExpectClose r j) (whole-failed (Bad r) e)
+
+      pub list-closed : (n : ℕ) → TakenIs v rparen ExpectClose (Ok n) → Put 10 s at (put_mid len m b₀ b₁) (list_of sort d s at) (read_to n (len + k.len))
+      unfolding on_ans
+      list-closed n j =
+          let q = taken-inside s k.next v h rparen n (lit< tt) ExpectClose j in
+          let e : rest_of sort d s g.fuel from end ≡ got (u ++ []) n = after-closes ∙ rw (closing-got s k.next v h n j) in
+          ended (u ++ []) n (len + k.len) e (rw append-nil i.wrote) (omega (arith, is.1, ap length (append-nil u))) (omega (arith, q, i.within, g.first, g.low)) q.1 (omega (arith, q, i.within, g.paid, g.low))
+
+    pub list-past : (f : ℕ) → BehindIs v comma (Some f) → (from < f) × (f ≤ length s)
+    list-past f c = omega (arith, behind-inside s k.next v h comma f (lit< tt) c, i.within)
+
+    pub list-next : (f : ℕ) → BehindIs v comma (Some f) → length b₁ ≡ length (take m (drop len b₀)) → SoFar s at sort d (put_mid len m b₀ b₁) f k.next (len + k.len)
+    unfolding rest
+    list-next f c z = go g.fuel g.enough g.whole
+      where
+        q : (k.next < f) × (f ≤ length s)
+        q = behind-inside s k.next v h comma f (lit< tt) c
+
+        size : length (put_mid len m b₀ b₁) ≡ length b₀
+        size = same_len_mid len m b₀ b₁ z
+
+        go : (n : ℕ) → length s ≤ n + from → list_of sort d s at ≡ on_ans (λ x. g.u ++ x) (rest_of sort d s n from end) → SoFar s at sort d (put_mid len m b₀ b₁) f k.next (len + k.len)
+        go zero l e = absurd (omega (arith, q, i.within))
+        go (suc n) l e = record {
+          u = g.u ++ u;
+          fuel = n;
+          enough = omega (arith, q, i.within);
+          whole = e ∙ ap (on_ans (λ x. g.u ++ x)) (after-got (suc n) ∙ ap (λ (x : Found (Unit {0})). on_ans (λ y. u ++ y) (on_ans (encode_fields 4) (rest_by F (rest F n s) s k.next x))) (sym (c.same s k.next h))) ∙ on_twice g.u u (rest_of sort d s n f k.next);
+          size = omega (arith, g.size, is.1, length-append g.u u);
+          wrote = begins-part u b₀ b₁ len m i.wrote g.u g.wrote g.size;
+          first = omega (arith, g.first, g.low, i.within);
+          low = omega (arith, q);
+          inside = q.1;
+          paid = omega (arith, g.paid, g.low, i.within);
+          small = g.small;
+          room = omega (arith, size, g.room, q, i.within);
+          short = omega (arith, size, g.short);
+        }

@@ -1,35 +1,31 @@
 -- A tuple's suffixes, one behind the other.
 -- Assumes nothing.
-use mathlib.Core.Path.{◌≡◌, refl, sym, ◌∙◌, ap, subst}
-use mathlib.Core.List.{List, [], ◌∷◌, ◌++◌, append_assoc, append-nil}
-use Prim.Native.Nat.{ℕ, zero, suc, ◌+◌, ◌*◌, ◌-◌, ◌≤◌, ◌<◌}
-use native.Mathlib.Omega.{arith}
-use lib.ListN.{length, length-append}
+use Rattle.std.proofs.Common.{◌≡◌, refl, sym, ◌∙◌, ap, subst, ℕ, zero, suc, ◌+◌, ◌*◌, ◌-◌, ◌≤◌, List, [], ◌∷◌, ◌++◌, append_assoc, append-nil, length, length-append, arith}
+use Rattle.std.specs.Prelude.{None, Some}
 use Rattle.kinds.specs.Kind.{Suffix, sized, unsized}
-use Rattle.model.specs.Parser.{Ans, got, bad, deep, found, missing, on_ans}
+use Rattle.model.specs.Parser.{Ans, got, bad, deep, missing, on_ans}
 use Rattle.model.specs.Reading.{array_suffix, suffixes_in, suffixes}
-use Rattle.model.specs.Layout.{little_endian, record_of}
+use Rattle.model.specs.Layout.{little_endian}
 use Rattle.model.specs.Record.{encode_suffix, encode_suffixes}
-use Rattle.layout.specs.Buffer.{put, head, Wrote}
-use Rattle.layout.proofs.Puts.{put_then, length-head, headed}
-use Rattle.layout.proofs.Writes.{wrote_none, wrote-put, wrote_then}
-use Rattle.value.proofs.Suffixing.{encodes_last, sized_record, unsized_record}
+use Rattle.model.proofs.Bounds.{record_size}
+use Rattle.layout.specs.Buffer.{put}
+use Rattle.layout.proofs.Puts.{length-put}
 use Rattle.fields.specs.declared.Bracket.{Bracket}
-use Rattle.fields.specs.declared.Bracket.TheVariants as bracket
-use Rattle.fields.specs.Scratch.{to_found, BracketIs, Room, Grows}
+use Rattle.fields.specs.Scratch.{to_found, BracketIs, Begins, Room, Grows}
+use Rattle.fields.proofs.Begins.{begins-put}
 
--- some suffixes are read and written, and the rest is read from p on
-pub record Growing (s : List ℕ) (at o : ℕ) (b₀ : List ℕ) (p len : ℕ) (b : List ℕ) : Type 0 where
+-- some suffixes are read and written, and the rest is read from `next` on
+pub record Growing (s : List ℕ) (at : ℕ) (b : List ℕ) (next len : ℕ) : Type 0 where
   pub done : List Suffix
   pub fuel : ℕ
-  pub enough : length s ≤ fuel + p
-  pub whole : suffixes s at ≡ on_ans (λ ss. done ++ ss) (suffixes_in fuel s p)
+  pub enough : length s ≤ fuel + next
+  pub whole : suffixes s at ≡ on_ans (λ ss. done ++ ss) (suffixes_in fuel s next)
   pub size : len ≡ length (encode_suffixes 4 done)
-  pub wrote : Wrote o b₀ b (encode_suffixes 4 done)
-  pub low : at ≤ p
-  pub inside : p ≤ length s
-  pub paid : len + 10 * at ≤ 10 * p
-  pub room : o + len + 10 * (length s - p) ≤ length b
+  pub wrote : Begins b (encode_suffixes 4 done)
+  pub low : at ≤ next
+  pub inside : next ≤ length s
+  pub paid : len + 10 * at ≤ 10 * next
+  pub room : len + 10 * (length s - next) ≤ length b
   pub short : length b ≤ 65536
 
 on_none : (a : Ans (List Suffix)) → a ≡ on_ans (λ ss. [] ++ ss) a
@@ -44,15 +40,26 @@ on-more done x (got ss n) = ap (λ (l : List Suffix). got l n) (sym (append_asso
 on-more done x (bad w p) = refl
 on-more done x (deep p) = refl
 
-pub growing-start : (s : List ℕ) (at o : ℕ) (b : List ℕ) → Room 0 0 s at o b → Growing s at o b at 0 b
+encodes_last : (ss : List Suffix) (x : Suffix) → encode_suffixes 4 (ss ++ (x ∷ [])) ≡ encode_suffixes 4 ss ++ encode_suffix 4 x
+unfolding encode_suffixes
+encodes_last [] x = append-nil (encode_suffix 4 x)
+encodes_last (o ∷ ss) x = ap (encode_suffix 4 o ++◌) (encodes_last ss x) ∙ sym (append_assoc (encode_suffix 4 o) (encode_suffixes 4 ss) (encode_suffix 4 x))
+
+-- the record of a suffix takes 6 or 14 bytes
+pub suffix-size : (x : Suffix) → (6 ≤ length (encode_suffix 4 x)) × (length (encode_suffix 4 x) ≤ 14)
+unfolding encode_suffix little_endian
+suffix-size (sized n) = omega (arith, record_size 0xA (little_endian 8 n))
+suffix-size unsized = omega (arith, record_size 0xB [])
+
+pub growing-start : (s : List ℕ) (at : ℕ) (b : List ℕ) → Room 0 0 s at b → Growing s at b at 0
 unfolding suffixes encode_suffixes
-growing-start s at o b r = record {
+growing-start s at b r = record {
   done = [];
   fuel = length s;
   enough = omega arith;
   whole = on_none (suffixes_in (length s) s at);
   size = refl;
-  wrote = wrote_none o b;
+  wrote = refl;
   low = omega arith;
   inside = r.inside;
   paid = omega arith;
@@ -60,77 +67,53 @@ growing-start s at o b r = record {
   short = r.short;
 }
 
-module _ (s : List ℕ) (at o : ℕ) (b₀ : List ℕ) (p len : ℕ) (b : List ℕ) (g : Growing s at o b₀ p len b) where
-  -- one more suffix x, up to q, whose record of k bytes is written behind
-  more : (x : Suffix) (q k f : ℕ) (b₁ : List ℕ) → length s ≤ f + p → suffixes s at ≡ on_ans (λ ss. g.done ++ ss) (suffixes_in f s p) → array_suffix s p ≡ found x q → p < q → q ≤ length s
-      → k + 10 * p ≤ 10 * q → length (encode_suffix 4 x) ≡ k → b₁ ≡ put (o + len) (encode_suffix 4 x) b → Growing s at o b₀ q (len + k) b₁
-  unfolding suffixes_in
-  more x q k zero b₁ e w a h i j l f = absurd (omega arith)
-  more x q k (suc n) b₁ e w a h i j l f =
-      let y = encodes_last g.done x in
-      let z : length (encode_suffixes 4 (g.done ++ (x ∷ []))) ≡ len + k = ap length y ∙ omega (arith, length-append (encode_suffixes 4 g.done) (encode_suffix 4 x), g.size) in
-      let v = wrote-put (o + len) (encode_suffix 4 x) b b₁ (omega (arith, g.room)) f in
-      let u = wrote_then o (o + len) b₀ b b₁ (encode_suffixes 4 g.done) (encode_suffix 4 x) g.wrote (omega (arith, g.size)) v in
-      record {
-        done = g.done ++ (x ∷ []);
-        fuel = n;
-        enough = omega arith;
-        whole = w ∙ rw a (on-more g.done x (suffixes_in n s q));
-        size = sym z;
-        wrote = subst (Wrote o b₀ b₁) (sym y) u;
-        low = omega (arith, g.low);
-        inside = i;
-        paid = omega (arith, g.paid);
-        room = omega (arith, g.room, v.size);
-        short = omega (arith, g.short, v.size);
-      }
+module _ (s : List ℕ) (at : ℕ) (b : List ℕ) (next len : ℕ) (g : Growing s at b next len) where
+  -- one more
+  module _ (x : Bracket) (i : BracketIs s next (Some x)) where
+    pub growing_room : len + length (encode_suffix 4 x.suffix) ≤ length b
+    growing_room = omega (arith, g.room, suffix-size x.suffix, i.behind)
 
-  module _ (r : Bracket) (i : BracketIs s p r) where
-    pub growing-sized : (n q : ℕ) (b₁ b₂ : List ℕ) → r ≡ bracket.Sized n q → b₁ ≡ put (o + len) (head 14 10) b → b₂ ≡ put (o + len + 6) (little_endian 8 n) b₁ → Growing s at o b₀ q (len + 14) b₂
-    unfolding to_found encode_suffix little_endian
-    growing-sized n q b₁ b₂ e f h =
-        let j : BracketIs s p (bracket.Sized n q) = subst (BracketIs s p) e i in
-        let w : b₂ ≡ put (o + len) (record_of 4 10 (little_endian 8 n)) b
-        = put_then (o + len) (o + len + 6) (head 14 10) (little_endian 8 n) b b₁ b₂ f h (omega (arith, length-head 14 10)) (omega (arith, length-head 14 10, g.room, j.behind)) ∙ ap (λ (l : List ℕ). put (o + len) l b) (headed 10 14 (little_endian 8 n) refl) in
-        more (sized n) q 14 g.fuel b₂ g.enough g.whole (sym j.same) (omega (arith, j.behind)) j.behind.1 (omega (arith, j.behind)) (sized_record n) w
+    pub growing-next : (b₁ : List ℕ) (k : ℕ) → b₁ ≡ put len (encode_suffix 4 x.suffix) b → k ≡ length (encode_suffix 4 x.suffix) → Growing s at b₁ x.next (len + k)
+    unfolding suffixes_in to_found
+    growing-next b₁ k e f = go g.fuel g.enough g.whole
+      where
+        size : length b₁ ≡ length b
+        size = ap length e ∙ length-put len (encode_suffix 4 x.suffix) b growing_room
 
-    pub growing-unsized : (q : ℕ) (b₁ : List ℕ) → r ≡ bracket.Unsized q → b₁ ≡ put (o + len) (head 6 11) b → Growing s at o b₀ q (len + 6) b₁
-    unfolding to_found encode_suffix
-    growing-unsized q b₁ e f =
-        let j : BracketIs s p (bracket.Unsized q) = subst (BracketIs s p) e i in
-        more unsized q 6 g.fuel b₁ g.enough g.whole (sym j.same) (omega (arith, j.behind)) j.behind.1 (omega (arith, j.behind)) unsized_record
-        (f ∙ ap (λ (l : List ℕ). put (o + len) l b) (sym (append-nil (head 6 11)) ∙ headed 11 6 [] refl))
+        long : length (encode_suffixes 4 (g.done ++ (x.suffix ∷ []))) ≡ len + k
+        long = ap length (encodes_last g.done x.suffix) ∙ omega (arith, length-append (encode_suffixes 4 g.done) (encode_suffix 4 x.suffix), g.size)
 
-    -- room for a record, and the measure
-    pub room-sized : (n q : ℕ) → r ≡ bracket.Sized n q → o + len + 14 ≤ length b
-    room-sized n q e = let j : BracketIs s p (bracket.Sized n q) = subst (BracketIs s p) e i in omega (arith, g.room, j.behind)
-
-    pub room-unsized : (q : ℕ) → r ≡ bracket.Unsized q → o + len + 6 ≤ length b
-    room-unsized q e = let j : BracketIs s p (bracket.Unsized q) = subst (BracketIs s p) e i in omega (arith, g.room, j.behind)
-
-    pub less-sized : (n q : ℕ) → r ≡ bracket.Sized n q → length s - q < length s - p
-    less-sized n q e = let j : BracketIs s p (bracket.Sized n q) = subst (BracketIs s p) e i in omega (arith, j.behind)
-
-    pub less-unsized : (q : ℕ) → r ≡ bracket.Unsized q → length s - q < length s - p
-    less-unsized q e = let j : BracketIs s p (bracket.Unsized q) = subst (BracketIs s p) e i in omega (arith, j.behind)
-
-    last : (f : ℕ) → array_suffix s p ≡ missing → suffixes_in f s p ≡ got [] p
-    unfolding suffixes_in
-    last zero a = refl
-    last (suc f) a = rw a
-
-    pub growing-end : r ≡ bracket.Missing → Grows s at o b₀ b p len
-    unfolding to_found on_ans
-    growing-end e =
-        let j : BracketIs s p bracket.Missing = subst (BracketIs s p) e i in
-        record {
-          read = g.done;
-          same = g.whole ∙ rw (last g.fuel (sym j.same), append-nil);
-          size = g.size;
-          wrote = g.wrote;
-          low = g.low;
-          inside = g.inside;
-          paid = g.paid;
+        go : (n : ℕ) → length s ≤ n + next → suffixes s at ≡ on_ans (λ ss. g.done ++ ss) (suffixes_in n s next) → Growing s at b₁ x.next (len + k)
+        go zero m w = absurd (omega (arith, i.behind))
+        go (suc n) m w = record {
+          done = g.done ++ (x.suffix ∷ []);
+          fuel = n;
+          enough = omega (arith, i.behind);
+          whole = w ∙ rw (← i.same) (on-more g.done x.suffix (suffixes_in n s x.next));
+          size = sym long;
+          wrote = subst (Begins b₁) (sym (encodes_last g.done x.suffix)) (begins-put (encode_suffixes 4 g.done) (encode_suffix 4 x.suffix) b b₁ len g.wrote g.size e);
+          low = omega (arith, g.low, i.behind);
+          inside = i.behind.1;
+          paid = omega (arith, g.paid, i.behind, suffix-size x.suffix);
+          room = omega (arith, g.room, i.behind, suffix-size x.suffix, size);
+          short = omega (arith, g.short, size);
         }
 
-pub ruleset growing = (growing-start, growing-sized, growing-unsized, room-sized, room-unsized, less-sized, less-unsized, growing-end)
+  last : (f : ℕ) → array_suffix s next ≡ missing → suffixes_in f s next ≡ got [] next
+  unfolding suffixes_in
+  last zero a = refl
+  last (suc f) a = rw a
+
+  pub growing-end : BracketIs s next None → Grows s at b (record { next = next; len = len })
+  unfolding to_found on_ans
+  growing-end i = record {
+    read = g.done;
+    same = g.whole ∙ rw (last g.fuel (sym i.same), append-nil);
+    size = g.size;
+    wrote = g.wrote;
+    low = g.low;
+    inside = g.inside;
+    paid = g.paid;
+  }
+
+pub ruleset growing = (suffix-size, growing-start, growing-next, growing-end)

@@ -1,5 +1,6 @@
 pub mod Spots
 pub mod Ends
+pub mod Begins
 pub mod Growing
 pub mod LeafFields
 pub mod Naming

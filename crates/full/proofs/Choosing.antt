@@ -3,7 +3,7 @@
 use mathlib.Core.Path.{◌≡◌, refl, sym, ◌∙◌, ap, subst}
 use mathlib.Core.Bool.{true}
 use mathlib.Core.List.{List, [], ◌∷◌, ◌++◌, append-nil}
-use mathlib.Core.Option.{none, some}
+use Rattle.std.specs.Prelude.{None, Some}
 use Prim.Native.Nat.{ℕ, ◌+◌, ◌*◌, ◌-◌, ◌≤◌, ◌<◌}
 use native.Mathlib.Omega.{arith}
 use lib.Dec.{leb}
@@ -18,15 +18,13 @@ use Rattle.model.specs.declared.Sort.TheVariants.{Plain, Parameter, Event}
 use Rattle.model.specs.declared.Keyword.{Keyword}
 use Rattle.model.specs.declared.Keyword.TheVariants as keyword
 use Rattle.model.specs.declared.Refusal.TheVariants.{NotWellFormed}
-use Rattle.model.specs.declared.Answer.{Answer}
-use Rattle.model.specs.declared.Answer.TheVariants.{Refused}
 use Rattle.model.specs.Tree.{Fields, no_field, kinds_of, Declaration}
 use Rattle.model.specs.Written.{name_text, by_mark}
 use Rattle.model.specs.Reading.{mutabilities, keyword_text, deepest}
 use Rattle.model.specs.Layout.{little_endian, le_value, record_of, Bytes}
 use Rattle.model.specs.Record.{encode_fields, encode_list, encode_name, encode, are_fields, is_declaration, well_formed, longest_record, case, on_option, decode_fields, decode, decode_lone}
 use Rattle.model.specs.Full.{bracketed, mutability_text, anonymous_text, full_text, full_output}
-use Rattle.model.specs.Answer.{writes}
+use Rattle.model.specs.Answer.{writes, Answer, refusing}
 use Rattle.model.proofs.Pieces.{le_length, le_read, record_length}
 use Rattle.model.proofs.Decoding.{select-other}
 use Rattle.model.proofs.Records.{inputs_spells, decode-exactly}
@@ -126,12 +124,12 @@ no_outputs b u e f = record {
   some = λ n. absurd (n (omega arith));
 }
 
-output-is : (b : List ℕ) (d : Declaration) (u : List ℕ) → decode b ≡ some d → full_text d ≡ u → full_output b ≡ writes u
+output-is : (b : List ℕ) (d : Declaration) (u : List ℕ) → decode b ≡ Some d → full_text d ≡ u → full_output b ≡ writes u
 unfolding full_output
 output-is b d u e f = rw (full_output, e) (ap writes f)
 
 module _ (b : List ℕ) (B : AreBytes b) where
-  exactly : (d : Declaration) → decode b ≡ some d → (well_formed d ≡ true) × (b ≡ encode 4 d)
+  exactly : (d : Declaration) → decode b ≡ Some d → (well_formed d ≡ true) × (b ≡ encode 4 d)
   exactly d e = (decode-exactly b d (bytes_of b B)).0 e
 
   listed : (sort : Sort) (l : Measured) (fs : Fields) → length b ≤ longest_record → ListSaid b sort l fs → Listed b l fs
@@ -145,7 +143,7 @@ module _ (b : List ℕ) (B : AreBytes b) where
   }
 
   -- a declaration whose full text is a line in its parts: so long it is, and what ends as its line ends as the call is to end
-  module _ (d : Declaration) (e : decode b ≡ some d) where
+  module _ (d : Declaration) (e : decode b ≡ Some d) where
     line-is-short : (u : List ℕ) → full_text d ≡ u → length u ≤ 2 * length b
     line-is-short u f = omega (arith, full-short b u (bytes_of b B) (output-is b d u e f))
 
@@ -296,10 +294,10 @@ module _ (b : List ℕ) (w : ConstructorSaid (decode b)) (B : AreBytes b) where
   part_small : length fields_part ≤ length b
   part_small = omega (arith, rest-length b 14)
 
-  part-text : tuple_text_from Parameter 32 fields_part ≡ some (kind_text (Kind.tuple (kinds_of w.ins)))
+  part-text : tuple_text_from Parameter 32 fields_part ≡ Some (kind_text (Kind.tuple (kinds_of w.ins)))
   unfolding tuple_text_from
   part-text =
-      let read : decode_fields 4 Parameter (encode_fields 4 w.ins) ≡ some w.ins = (inputs_spells 4 Parameter).to w.ins ins-well (omega (arith, ap length part-is, part_small, short b constructor_tree w.same)) in
+      let read : decode_fields 4 Parameter (encode_fields 4 w.ins) ≡ Some w.ins = (inputs_spells 4 Parameter).to w.ins ins-well (omega (arith, ap length part-is, part_small, short b constructor_tree w.same)) in
       ap (on_option (λ fs. kind_text (Kind.tuple (kinds_of fs)))) (fields-decode Parameter fields_part ∙ ap (decode_fields 4 Parameter) part-is ∙ read)
 
   module _ (t : ℕ) (g : (t ≡ measured (tuple_text_from Parameter 32 fields_part)) × (t ≤ 2 * length fields_part + 2)) where
@@ -365,12 +363,12 @@ module _ (b : List ℕ) (k : Checked) (i : Says b (decode b) (decode_lone b) k) 
   pub constructs : k ≡ checked.Constructor → ConstructorSaid (decode b)
   constructs e = (subst (Says b (decode b) (decode_lone b)) e i).0
 
-  no_full : decode b ≡ none → (text : List ℕ) (r : Answer) → r ≡ Refused NotWellFormed 0 → Ends (full_output b) text text r
+  no_full : decode b ≡ None → (text : List ℕ) (r : Answer) → r ≡ refusing NotWellFormed 0 → Ends (full_output b) text text r
   unfolding full_output
   no_full e text r f = ends-refused (full_output b) text r NotWellFormed 0 f (rw (full_output, e))
 
-  pub field-full : (s : Spot) (l : Measured) → k ≡ checked.Field s l → (text : List ℕ) (r : Answer) → r ≡ Refused NotWellFormed 0 → Ends (full_output b) text text r
+  pub field-full : (s : Spot) (l : Measured) → k ≡ checked.Field s l → (text : List ℕ) (r : Answer) → r ≡ refusing NotWellFormed 0 → Ends (full_output b) text text r
   field-full s l e = no_full (subst (Says b (decode b) (decode_lone b)) e i).0
 
-  pub ill_full : k ≡ checked.IllFormed → (text : List ℕ) (r : Answer) → r ≡ Refused NotWellFormed 0 → Ends (full_output b) text text r
+  pub ill_full : k ≡ checked.IllFormed → (text : List ℕ) (r : Answer) → r ≡ refusing NotWellFormed 0 → Ends (full_output b) text text r
   ill_full e = no_full (subst (Says b (decode b) (decode_lone b)) e i).0

@@ -1,5 +1,6 @@
 -- Lines written in full, of a record that was checked.
 -- Assumes nothing.
+use Rattle.std.specs.Prelude.{Ok}
 use mathlib.Core.Path.{◌≡◌, refl, sym, ◌∙◌, ap}
 use mathlib.Core.Bool.{Bool, true, false}
 use mathlib.Core.List.{List, [], ◌++◌, append_assoc}
@@ -15,10 +16,8 @@ use Rattle.model.specs.Tree.{Base, elementary, tuple, Field, field, Fields, no_f
 use Rattle.model.specs.Record.{encode_fields, longest_record}
 use Rattle.model.specs.Full.{bracketed, returns_text}
 use Rattle.model.specs.Written.{suffixes_text, mark_text, name_text, written_base, written_field, written_list, written_rest}
-use Rattle.model.specs.declared.Answer.{Answer}
-use Rattle.model.specs.declared.Answer.TheVariants.{Accepted, Refused}
 use Rattle.model.specs.declared.Refusal.TheVariants.{NoRoom}
-use Rattle.model.specs.Answer.{writes}
+use Rattle.model.specs.Answer.{writes, Answer, refusing}
 use Rattle.layout.proofs.Answers.{ends-full, ends-written}
 use Rattle.record.specs.declared.Spot.{Spot}
 use Rattle.record.specs.declared.Measured.{Measured}
@@ -171,7 +170,7 @@ module _ (b : List ℕ) (s : Spot) (i u : Measured) (front back : List ℕ) wher
     fits-measured room p = ap (λ n. leb n room) (sym (total-long p))
 
   -- it does not
-  pub line-full : (text : List ℕ) (f : Bool) (r : Answer) → LineFits b s i u front back (length text) f → f ≡ false → r ≡ Refused NoRoom 0 → LineEnds b s i u front back text text r
+  pub line-full : (text : List ℕ) (f : Bool) (r : Answer) → LineFits b s i u front back (length text) f → f ≡ false → r ≡ refusing NoRoom 0 → LineEnds b s i u front back text text r
   line-full text f r F n e p = ends-full (writes (line_of p)) text r (line_of p) e refl (leb-false (length (line_of p)) (length text) (sym (F p) ∙ n))
 
   -- it does
@@ -231,5 +230,5 @@ module _ (b : List ℕ) (s : Spot) (i u : Measured) (front back : List ℕ) wher
                   put_same (line_of p) (line₄ p ++ returns_text p.outs) 0 text text₅ p₅ (same_line p)
                   (put_both (line₄ p) (returns_text p.outs) 0 text text₄ text₅ p₄ p₅ (done₄ p) (w₅ p.outs p.outputs.is (room₅ p)) (omega (arith, room p, ap length (same_line p))))
 
-              pub line-ends : (r : Answer) → r ≡ Accepted p₅ → LineEnds b s i u front back text text₅ r
-              line-ends r e p = ends-written (writes (line_of p)) text r (line_of p) text₅ (e ∙ ap Accepted ((done₅ p).1 ∙ zero-add (length (line_of p)))) refl (room p) (done₅ p).0
+              pub line-ends : (r : Answer) → r ≡ Ok p₅ → LineEnds b s i u front back text text₅ r
+              line-ends r e p = ends-written (writes (line_of p)) text r (line_of p) text₅ (e ∙ ap Ok ((done₅ p).1 ∙ zero-add (length (line_of p)))) refl (room p) (done₅ p).0

@@ -3,7 +3,8 @@
 use mathlib.Core.Path.{◌≡◌, refl, sym, ◌∙◌, ap}
 use mathlib.Core.Bool.{true}
 use mathlib.Core.List.{List, [], ◌∷◌, ◌++◌, append_assoc}
-use mathlib.Core.Option.{some, none-ne-some}
+use Rattle.std.specs.Prelude.{Some}
+use Rattle.std.proofs.lemmas.Option.{none-some}
 use Prim.Native.Nat.{ℕ, ◌+◌, ◌-◌, ◌≤◌, ◌<◌}
 use native.Mathlib.Omega.{arith}
 use lib.ListN.{length, take, drop, set, length-append, length-set}
@@ -44,13 +45,13 @@ put_same u v o b b₁ r e w = rw e w
 
 -- Kinds.
 
-suffixes-text : (t : List ℕ) (ss : List Suffix) → t ≡ encode_suffixes 4 ss → all is_suffix ss ≡ true → length t ≤ longest_record → suffixes_from t ≡ some (suffixes_text ss)
+suffixes-text : (t : List ℕ) (ss : List Suffix) → t ≡ encode_suffixes 4 ss → all is_suffix ss ≡ true → length t ≤ longest_record → suffixes_from t ≡ Some (suffixes_text ss)
 unfolding suffixes_from
 suffixes-text t ss e w s = rw e (ap (on_option suffixes_text) ((suffixes_spells 4).to ss w (omega (arith, ap length e))))
 
-no_tuple : (j : ℕ) (body : List ℕ) (x : Elementary) → decode_elementary j body ≡ some x → j ≡ 9 → ⊥
+no_tuple : (j : ℕ) (body : List ℕ) (x : Elementary) → decode_elementary j body ≡ Some x → j ≡ 9 → ⊥
 unfolding decode_elementary
-no_tuple j body x p q = none-ne-some x (rw q at p)
+no_tuple j body x p q = none-some x (rw q at p)
 
 -- an elementary kind, and what abi writes of it
 module _ (t : List ℕ) (k : FieldKind) (i : KindIs t k) (x : Elementary) (z : k.base ≡ elementary x) where
@@ -68,15 +69,15 @@ module _ (t : List ℕ) (k : FieldKind) (i : KindIs t k) (x : Elementary) (z : k
   rest-small : length rest ≤ longest_record
   rest-small = omega (arith, ap length same_bytes, length-append (encode_elementary 4 x) rest, i.small)
 
-  leaf-text : kind_from 0 t ≡ some (kind_written k)
+  leaf-text : kind_from 0 t ≡ Some (kind_written k)
   unfolding kind_from elementary_from written_base
   leaf-text =
       let (j, body, small, u, p) = elementary-to 4 x good in
       let apart : t ≡ record_of 4 j body ++ rest = same_bytes ∙ ap (λ y. y ++ rest) u in
       let fits : 6 + length body ≤ longest_record = omega (arith, ap length apart, length-append (record_of 4 j body) rest, record_length 4 j body, i.small) in
       let first : piece_of 4 t ≡ piece j body rest = ap (piece_of 4) apart ∙ piece-read 4 j body rest small (omega arith) in
-      let base : base_text_from 0 j body ≡ some (elementary_text x) = base-elementary 0 j body (no_tuple j body x p) ∙ ap (on_option elementary_text) p in
-      rw (kind_from, first, base, suffixes-text rest k.suffixes refl i.suffixes-well rest-small) (ap (λ b. some (written_base b ++ suffixes_text k.suffixes)) (sym z))
+      let base : base_text_from 0 j body ≡ Some (elementary_text x) = base-elementary 0 j body (no_tuple j body x p) ∙ ap (on_option elementary_text) p in
+      rw (kind_from, first, base, suffixes-text rest k.suffixes refl i.suffixes-well rest-small) (ap (λ b. Some (written_base b ++ suffixes_text k.suffixes)) (sym z))
 
 module _ (t : List ℕ) (o : ℕ) (out : List ℕ) (q : KindRoom t o out) where
   module _ (n : ℕ) (e : n ≡ le_value (take 2 (drop 4 t))) where
@@ -120,7 +121,7 @@ module _ (t : List ℕ) (o : ℕ) (out : List ℕ) (q : KindRoom t o out) where
         both : o + length (bracketed inner) + length (suffixes_text k.suffixes) ≤ length out
         both = omega (arith, ap length whole, length-append (bracketed inner) (suffixes_text k.suffixes))
 
-        behind-text : suffixes_from behind ≡ some (suffixes_text k.suffixes)
+        behind-text : suffixes_from behind ≡ Some (suffixes_text k.suffixes)
         behind-text = suffixes-text behind k.suffixes (part-rest t l ∙ (found k i).rest) i.suffixes-well (omega (arith, rest-length t l, i.small))
 
         module _ (out₁ : List ℕ) (s : ℕ) (w : FieldsWrote body o out out₁ s) where

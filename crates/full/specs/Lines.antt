@@ -5,8 +5,7 @@ use Rattle.kinds.specs.Kind.{Kind, kind_text}
 use Rattle.model.specs.Tree.{Fields, kinds_of}
 use Rattle.model.specs.Record.{longest_record}
 use Rattle.model.specs.Full.{bracketed, returns_text}
-use Rattle.model.specs.declared.Answer.{Answer}
-use Rattle.model.specs.Answer.{writes}
+use Rattle.model.specs.Answer.{writes, Answer}
 use Rattle.layout.specs.Answers.{Ends}
 use Rattle.record.specs.declared.Spot.{Spot}
 use Rattle.record.specs.declared.Measured.{Measured}

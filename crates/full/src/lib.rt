@@ -280,7 +280,7 @@ fn whole(
         let s = write_full_fields(&record[start..end], text, q);
         let e = abi::write_word(text, s, back);
         let length = write_returns(record, first, last, text, e);
-        return Answer::Accepted { length };
+        return Ok(length);
     }
     abi::refused(Refusal::NoRoom)
 }

@@ -2,33 +2,32 @@
 -- Assumes nothing.
 use mathlib.Core.Path.{◌≡◌, refl, sym, ◌∙◌, ap}
 use mathlib.Core.List.{List}
-use mathlib.Core.Option.{Option, none, some}
+use Rattle.std.specs.Prelude.{Option, None, Some, Ok, Err}
 use Prim.Native.Nat.{ℕ}
 use lib.ListN.{length}
 use Rattle.model.specs.declared.Refusal.{Refusal}
+use Rattle.model.specs.declared.Refused.{Refused}
+use Rattle.model.specs.declared.Found.{Found}
+use Rattle.model.specs.declared.Missing.{Missing}
 use Rattle.model.specs.declared.Refusal.TheVariants.{NotWellFormed, WrongSort}
-use Rattle.model.specs.declared.Answer.{Answer}
-use Rattle.model.specs.declared.Answer.TheVariants.{Accepted, Refused}
-use Rattle.model.specs.declared.Search.{Search}
-use Rattle.model.specs.declared.Search.TheVariants.{At, Missing}
-use Rattle.model.specs.Answer.{Outcome, Output, writes, refuses, number, said, outcome, after, handed, refusal_number}
+use Rattle.model.specs.Answer.{Outcome, Output, writes, refuses, number, said, outcome, after, handed, refusal_number, Answer}
 use Rattle.model.specs.Tree.{Declaration, Field}
 use Rattle.model.specs.Line.{name_of, field_name}
 use Rattle.model.specs.Record.{decode, decode_lone}
 use Rattle.model.specs.Calls.{or_wrong_sort, name_by, name_output}
 use Rattle.model.specs.Sheet.{OnLine}
-use Rattle.model.specs.Find.{told as told_in}
+use Rattle.model.specs.Find.{told as told_in, Search}
 use Rattle.model.proofs.Numbers.{no_refusal_0}
 use Rattle.geusomin.specs.Told.{code, worth}
 
 module _ (a : Answer) where
-  pub tells-accepted : (n : ℕ) → a ≡ Accepted n → (0 ≡ code (said a)) × (n ≡ worth (said a))
+  pub tells-accepted : (n : ℕ) → a ≡ Ok n → (0 ≡ code (said a)) × (n ≡ worth (said a))
   unfolding code worth said
   tells-accepted n e = (rw e, rw e)
 
-  pub tells-refused : (w : Refusal) (p r : ℕ) → a ≡ Refused w p → r ≡ number w → (r ≡ code (said a)) × (p ≡ worth (said a))
+  pub tells-refused : (x : Refused) (r : ℕ) → a ≡ Err x → r ≡ number x.refusal → (r ≡ code (said a)) × (x.position ≡ worth (said a))
   unfolding code worth said
-  tells-refused w p r e f = (rw e f, rw e)
+  tells-refused x r e f = (rw e f, rw e)
 
   -- a call that writes nothing: what it says is told
   pub told_so : (x : Outcome) (r v : ℕ) → said a ≡ x → r ≡ code (said a) → v ≡ worth (said a) → (r ≡ code x) × (v ≡ worth x)
@@ -46,13 +45,13 @@ module _ (a : Answer) where
 
 -- a search in three numbers
 module _ (s o : Search) (e : s ≡ o) where
-  pub told-found : (p n : ℕ) → s ≡ At p n → (0 ≡ (told_in o).refusal) × ((p ≡ (told_in o).place) × (n ≡ (told_in o).compared))
+  pub told-found : (x : Found) → s ≡ Ok x → (0 ≡ (told_in o).refusal) × ((x.place ≡ (told_in o).place) × (x.compared ≡ (told_in o).compared))
   unfolding told_in
-  told-found p n f = let g : o ≡ At p n = sym e ∙ f in (rw g, (rw g, rw g))
+  told-found x f = let g : o ≡ Ok x = sym e ∙ f in (rw g, (rw g, rw g))
 
-  pub told-missing : (w : Refusal) (n r : ℕ) → s ≡ Missing w n → r ≡ number w → (r ≡ (told_in o).refusal) × ((0 ≡ (told_in o).place) × (n ≡ (told_in o).compared))
+  pub told-missing : (x : Missing) (r : ℕ) → s ≡ Err x → r ≡ number x.refusal → (r ≡ (told_in o).refusal) × ((0 ≡ (told_in o).place) × (x.compared ≡ (told_in o).compared))
   unfolding told_in
-  told-missing w n r f h = let g : o ≡ Missing w n = sym e ∙ f in (rw g h, (rw g, rw g))
+  told-missing x r f h = let g : o ≡ Err x = sym e ∙ f in (rw g h, (rw g, rw g))
 
 -- the name call: its output by the number that it tells
 
@@ -74,13 +73,13 @@ unfolding refusal_number code worth outcome after
 refuses-at-front w = record { front = λ room b h. (refl, (refl, refl)) }
 
 sort-at-front : (n : Option (List ℕ)) → AtFront (or_wrong_sort n)
-sort-at-front none = refuses-at-front WrongSort
-sort-at-front (some u) = writes-at-front u
+sort-at-front None = refuses-at-front WrongSort
+sort-at-front (Some u) = writes-at-front u
 
 by-at-front : (d : Option Declaration) (f : Option Field) → AtFront (name_by d f)
-by-at-front (some d) f = sort-at-front (name_of d)
-by-at-front none none = refuses-at-front NotWellFormed
-by-at-front none (some g) = writes-at-front (field_name g)
+by-at-front (Some d) f = sort-at-front (name_of d)
+by-at-front None None = refuses-at-front NotWellFormed
+by-at-front None (Some g) = writes-at-front (field_name g)
 
 name-at-front : (b : List ℕ) → AtFront (name_output b)
 unfolding name_output

@@ -11,7 +11,7 @@ ghost use Rattle.model.specs.Find.{told, find_output};
 ghost use Rattle.calldata.specs.Calls.{heads_output, check_output};
 ghost use Rattle.geusomin.specs.Told.{code, worth};
 
-use model::{Answer, Call, Refusal, Search};
+use model::{Answer, Call, Refusal, Refused};
 
 // An answer in two numbers.
 fn tell(answer: Answer, value: &mut usize) -> u32
@@ -19,13 +19,13 @@ fn tell(answer: Answer, value: &mut usize) -> u32
     ensures shows { value.new ≡ worth (said answer) }
 {
     match answer {
-        Answer::Accepted { length } => {
+        Ok(length) => {
             *value = length;
             0
         }
-        Answer::Refused { refusal, position } => {
+        Err(Refused { refusal, position }) => {
             *value = position;
-            refusal::number(refusal)
+            refusal.into()
         }
     }
 }
@@ -40,7 +40,7 @@ pub extern "C" fn geusomin_parse_declaration(
     ensures shows { value.new ≡ worth (outcome (length «record».old) (read_output Call.General text.now)) }
     ensures left { «record».new ≡ after «record».old (read_output Call.General text.now) }
 {
-    tell(declaration::parse_declaration(text, record), value)
+    tell(declaration::read(Call::General, text, record), value)
 }
 
 #[unsafe(no_mangle)]
@@ -49,7 +49,7 @@ pub extern "C" fn geusomin_parse_function(text: &[u8], record: &mut [u8], value:
     ensures shows { value.new ≡ worth (outcome (length «record».old) (read_output Call.Function text.now)) }
     ensures left { «record».new ≡ after «record».old (read_output Call.Function text.now) }
 {
-    tell(declaration::parse_function(text, record), value)
+    tell(declaration::read(Call::Function, text, record), value)
 }
 
 #[unsafe(no_mangle)]
@@ -62,7 +62,7 @@ pub extern "C" fn geusomin_parse_constructor(
     ensures shows { value.new ≡ worth (outcome (length «record».old) (read_output Call.Constructor text.now)) }
     ensures left { «record».new ≡ after «record».old (read_output Call.Constructor text.now) }
 {
-    tell(declaration::parse_constructor(text, record), value)
+    tell(declaration::read(Call::Constructor, text, record), value)
 }
 
 #[unsafe(no_mangle)]
@@ -71,7 +71,7 @@ pub extern "C" fn geusomin_parse_event(text: &[u8], record: &mut [u8], value: &m
     ensures shows { value.new ≡ worth (outcome (length «record».old) (read_output Call.Event text.now)) }
     ensures left { «record».new ≡ after «record».old (read_output Call.Event text.now) }
 {
-    tell(declaration::parse_event(text, record), value)
+    tell(declaration::read(Call::Event, text, record), value)
 }
 
 #[unsafe(no_mangle)]
@@ -80,7 +80,7 @@ pub extern "C" fn geusomin_parse_error(text: &[u8], record: &mut [u8], value: &m
     ensures shows { value.new ≡ worth (outcome (length «record».old) (read_output Call.Error text.now)) }
     ensures left { «record».new ≡ after «record».old (read_output Call.Error text.now) }
 {
-    tell(declaration::parse_error(text, record), value)
+    tell(declaration::read(Call::Error, text, record), value)
 }
 
 #[unsafe(no_mangle)]
@@ -118,23 +118,16 @@ pub extern "C" fn geusomin_find(
     ensures placed { place.new ≡ (told (find_output sheet.now text.now)).place }
     ensures counted { compared.new ≡ (told (find_output sheet.now text.now)).compared }
 {
-    let r = index::find(sheet, text);
-    match r {
-        Search::At {
-            place: at,
-            compared: n,
-        } => {
-            *place = at;
-            *compared = n;
+    match index::find(sheet, text) {
+        Ok(found) => {
+            *place = found.place;
+            *compared = found.compared;
             0
         }
-        Search::Missing {
-            refusal,
-            compared: n,
-        } => {
+        Err(missing) => {
             *place = 0;
-            *compared = n;
-            refusal::number(refusal)
+            *compared = missing.compared;
+            missing.refusal.into()
         }
     }
 }
@@ -199,13 +192,10 @@ fn copied(part: &[u8], text: &mut [u8]) -> Answer
 {
     let length = part.len();
     if text.len() < length {
-        return Answer::Refused {
-            refusal: Refusal::NoRoom,
-            position: 0,
-        };
+        return Err(Refusal::NoRoom.into());
     }
     layout::copy(text, 0, part);
-    Answer::Accepted { length }
+    Ok(length)
 }
 
 #[unsafe(no_mangle)]

@@ -1,9 +1,10 @@
 -- The search: the text of a declaration, a function with that text at a place, and all that are noted.
 -- Assumes nothing.
+use Rattle.std.specs.Prelude.{Ok}
 use mathlib.Core.Path.{◌≡◌, refl, sym, ◌∙◌, ap, ap₂}
 use mathlib.Core.Bool.{Bool, true, false, ◌&&◌}
 use mathlib.Core.List.{List}
-use mathlib.Core.Option.{Option, none, some}
+use Rattle.std.specs.Prelude.{Option, None, Some}
 use Prim.Native.Nat.{ℕ, suc, ◌+◌, ◌-◌, ◌≤◌, ◌<◌}
 use native.Mathlib.Omega.{arith}
 use native.Mathlib.Numerals.{add-one}
@@ -14,18 +15,14 @@ use Rattle.kinds.specs.Bytes.{same}
 use Rattle.kinds.proofs.Logic.{right}
 use Rattle.model.specs.declared.Refusal.{Refusal}
 use Rattle.model.specs.declared.Refusal.TheVariants.{NoSuchFunction, NotWellFormed}
-use Rattle.model.specs.declared.Answer.{Answer}
-use Rattle.model.specs.declared.Answer.TheVariants.{Accepted, Refused}
-use Rattle.model.specs.declared.Search.{Search}
-use Rattle.model.specs.declared.Search.TheVariants.{At, Missing}
 use Rattle.model.specs.Layout.{le_value}
 use Rattle.model.specs.Tree.{Declaration}
 use Rattle.model.specs.Record.{encode, well_formed}
 use Rattle.model.specs.Line.{canonical_text}
-use Rattle.model.specs.Answer.{accepted, refused, number, writes, said, outcome, after}
+use Rattle.model.specs.Answer.{accepted, refused, number, writes, said, outcome, after, Answer, refusing}
 use Rattle.model.specs.Calls.{canonical_output, or_wrong_sort}
 use Rattle.model.specs.Sheet.{same_text}
-use Rattle.model.specs.Find.{is_function, counted, is_sought, search_in, search_by, find_output}
+use Rattle.model.specs.Find.{is_function, counted, is_sought, search_in, search_by, find_output, found_at, not_found, Search}
 use Rattle.model.proofs.Sheets.{text_same}
 use Rattle.layout.proofs.Answers.{accepted-is, after-written}
 use Rattle.repeat.specs.Pairs.{RecordOf}
@@ -44,24 +41,24 @@ use Rattle.index.proofs.Repeating.{place-kind, place_record, short_record}
 -- The text of a record.
 
 module _ (t b u : List ℕ) (a : Answer) (says : said a ≡ outcome (length b) (canonical_output t)) where
-  pub line-told : (b₁ : List ℕ) → b₁ ≡ after b (canonical_output t) → (n : ℕ) → a ≡ Accepted n → (r : Bool) → r ≡ same (take n b₁) u → TextIs t u r
+  pub line-told : (b₁ : List ℕ) → b₁ ≡ after b (canonical_output t) → (n : ℕ) → a ≡ Ok n → (r : Bool) → r ≡ same (take n b₁) u → TextIs t u r
   unfolding said
   line-told b₁ leaves n e r f p =
       let (v, o, x, y) = accepted-is (canonical_output t) (length b) n (sym (ap said e) ∙ says) in
       let part : take n b₁ ≡ v = ap (take n) (leaves ∙ after-written b v (canonical_output t) o y) ∙ take_at v (drop (length v) b) n (sym x) in
       rw (text_of (canonical_text p.declaration) v (sym (output-is t p) ∙ o)) (f ∙ ap (λ w. same w u) part)
     where
-      text_of : (o : Option (List ℕ)) (v : List ℕ) → or_wrong_sort o ≡ writes v → o ≡ some v
-      text_of none v e = absurd (let z : ◌≡◌ {A = ℕ} 0 1 = cc in omega arith)
-      text_of (some w) v e = cc
+      text_of : (o : Option (List ℕ)) (v : List ℕ) → or_wrong_sort o ≡ writes v → o ≡ Some v
+      text_of None v e = absurd (let z : ◌≡◌ {A = ℕ} 0 1 = cc in omega arith)
+      text_of (Some w) v e = cc
 
-  pub line-not : AskedText t b → (w : Refusal) (x : ℕ) → a ≡ Refused w x → TextIs t u false
+  pub line-not : AskedText t b → (w : Refusal) (x : ℕ) → a ≡ refusing w x → TextIs t u false
   unfolding said outcome
   line-not q w x e p = go (canonical_text p.declaration) refl (sym (ap said e) ∙ says ∙ ap (outcome (length b)) (output-is t p))
     where
-      go : (o : Option (List ℕ)) → canonical_text p.declaration ≡ o → refused (number w) x ≡ outcome (length b) (or_wrong_sort o) → false ≡ same_text o (some u)
-      go none f g = refl
-      go (some v) f g =
+      go : (o : Option (List ℕ)) → canonical_text p.declaration ≡ o → refused (number w) x ≡ outcome (length b) (or_wrong_sort o) → false ≡ same_text o (Some u)
+      go None f g = refl
+      go (Some v) f g =
           let fits : outcome (length b) (writes v) ≡ accepted (length v) = rw (outcome, le-ltb (length b) (length v) (omega (arith, text-short t p.declaration p.one v f, q.room))) refl in
           absurd (let h : refused (number w) x ≡ accepted (length v) = g ∙ fits in let z : ◌≡◌ {A = ℕ} 0 1 = cc in omega arith)
 
@@ -109,12 +106,12 @@ module _ (b : List ℕ) (at k : ℕ) (e : k ≡ le_value (take 2 (drop 4 (take (
 -- a fingerprint that is not that of the text
 unlike : (d : Declaration) (x h : ℕ) (t : List ℕ) → well_formed d ≡ true → x ≡ print_in longest_text d → h ≡ print 0 t → (x ≡ h → ⊥) → is_sought t d ≡ false
 unfolding is_sought
-unlike d x h t g e f n = go (is_function d && same_text (canonical_text d) (some t)) refl
+unlike d x h t g e f n = go (is_function d && same_text (canonical_text d) (Some t)) refl
   where
-    go : (c : Bool) → (is_function d && same_text (canonical_text d) (some t)) ≡ c → c ≡ false
+    go : (c : Bool) → (is_function d && same_text (canonical_text d) (Some t)) ≡ c → c ≡ false
     go true q =
         let w : RecordOf (encode 4 d) d = record { bytes = refl; well = g } in
-        let s = (text_same (canonical_text d) (some t)).0 (right (is_function d) q) in
+        let s = (text_same (canonical_text d) (Some t)).0 (right (is_function d) q) in
         absurd (n (e ∙ print-is (encode 4 d) d w longest_text (short_record (encode 4 d) d w) t s ∙ sym f))
     go false q = refl
 
@@ -147,22 +144,22 @@ module _ (b t prints places : List ℕ) (n : ℕ) where
   SearchRest i c = (p : AskedSearch b prints places n) → search_in t 0 p.declarations ≡ search_in t c (drop i p.declarations)
 
   module _ (i : ℕ) (l : i < n) (c k h : ℕ) (r : Bool) (one : CountAt b (get_or places i 0) k) (e : h ≡ print 0 t) (told : SoughtIs b (get_or prints i 0) (get_or places i 0) h t r) (rest : SearchRest i c) where
-    here : (p : AskedSearch b prints places n) → search_in t 0 p.declarations ≡ elim r [ true ↦ At (c + k) (c + k) | false ↦ search_in t (c + k) (drop (suc i) p.declarations) ]
+    here : (p : AskedSearch b prints places n) → search_in t 0 p.declarations ≡ elim r [ true ↦ found_at (c + k) (c + k) | false ↦ search_in t (c + k) (drop (suc i) p.declarations) ]
     unfolding search_in at_it search_at search_asks
     here p =
         let d = (at_it b prints places n i l p).declaration in
         let m : counted c d ≡ c + k = counted-more c d ∙ ap (λ x. c + x) (sym (one.same (search_at b prints places n i l p))) in
         let s : is_sought t d ≡ r = sym (told (search_asks b prints places n i l t h e p)) in
         rest p ∙ ap (search_in t c) (at_it b prints places n i l p).split
-        ∙ ap₂ (λ x y. elim x as (λ _. Search) [ true ↦ At y y | false ↦ search_in t y (drop (suc i) p.declarations) ]) s m
+        ∙ ap₂ (λ x y. elim x as (λ _. Search) [ true ↦ found_at y y | false ↦ search_in t y (drop (suc i) p.declarations) ]) s m
 
-    pub search_hit : r ≡ true → SearchIs b t prints places n (At (c + k) (c + k))
+    pub search_hit : r ≡ true → SearchIs b t prints places n (found_at (c + k) (c + k))
     search_hit q p = sym (here p ∙ rw q refl)
 
     pub search_miss : r ≡ false → SearchRest (i + 1) (c + k)
     search_miss q p = here p ∙ rw (q, add-one) refl
 
-  pub search_end : (i c : ℕ) → n ≤ i → SearchRest i c → SearchIs b t prints places n (Missing NoSuchFunction c)
+  pub search_end : (i c : ℕ) → n ≤ i → SearchRest i c → SearchIs b t prints places n (not_found NoSuchFunction c)
   unfolding search_in
   search_end i c l rest p =
       let k : length p.declarations ≤ i = omega (arith, noted-length (RecordAt b) longest_text prints places n p.declarations p.noted) in
@@ -178,6 +175,6 @@ module _ (b prints places : List ℕ) (x : Indexed) (f : IndexIs b prints places
   unfolding find_output find_asks
   find_told t n e r g = g (find_asks n e) ∙ ap (λ o. search_by o t) (sym (sheet-noted b prints places x f n e).sheet)
 
-  pub find_none : (t : List ℕ) → x ≡ indexed.IllFormed → Missing NotWellFormed 0 ≡ find_output b t
+  pub find_none : (t : List ℕ) → x ≡ indexed.IllFormed → not_found NotWellFormed 0 ≡ find_output b t
   unfolding find_output
   find_none t e = ap (λ o. search_by o t) (sym (sheet-none b prints places x f e))

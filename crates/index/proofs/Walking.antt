@@ -3,7 +3,7 @@
 use mathlib.Core.Path.{◌≡◌, refl, sym, ◌∙◌, ap, subst}
 use mathlib.Core.Bool.{Bool, true, false, not, false≢true}
 use mathlib.Core.List.{List, [], ◌∷◌, ◌++◌, append-nil, append_assoc}
-use mathlib.Core.Option.{Option, none, some}
+use Rattle.std.specs.Prelude.{Option, None, Some}
 use Prim.Native.Nat.{ℕ, zero, suc, ◌+◌, ◌-◌, ◌^◌, ◌≤◌, ◌<◌}
 use native.Mathlib.Omega.{arith}
 use lib.Dec.{leb, eqb}
@@ -38,7 +38,7 @@ use Rattle.index.specs.Indexes.{sheet_of, sheet_behind, parts_in, SheetHead, lon
 
 -- The head.
 
-ended-more : {A : Type 0} (t : List ℕ) (o : Option A) → 0 < length t → ended t o ≡ none
+ended-more : {A : Type 0} (t : List ℕ) (o : Option A) → 0 < length t → ended t o ≡ None
 ended-more [] o h = absurd (omega arith)
 ended-more (c ∷ t) o h = refl
 
@@ -84,13 +84,13 @@ module _ (b : List ℕ) (k : Checked) (i : Says b (decode b) (decode_lone b) k) 
   checked_ill e = rw (subst (Says b (decode b) (decode_lone b)) e i).0 refl
 
 -- some declaration, or none
-present-some : (r : Bool) (o : Option Declaration) → r ≡ not (is_absent o) → r ≡ true → (d : Declaration) × (o ≡ some d)
-present-some r none e f = absurd (false≢true (sym e ∙ f))
-present-some r (some d) e f = (d, refl)
+present-some : (r : Bool) (o : Option Declaration) → r ≡ not (is_absent o) → r ≡ true → (d : Declaration) × (o ≡ Some d)
+present-some r None e f = absurd (false≢true (sym e ∙ f))
+present-some r (Some d) e f = (d, refl)
 
-present-none : (r : Bool) (o : Option Declaration) → r ≡ not (is_absent o) → r ≡ false → o ≡ none
-present-none r none e f = refl
-present-none r (some d) e f = absurd (false≢true (sym f ∙ e))
+present-none : (r : Bool) (o : Option Declaration) → r ≡ not (is_absent o) → r ≡ false → o ≡ None
+present-none r None e f = refl
+present-none r (Some d) e f = absurd (false≢true (sym f ∙ e))
 
 some-part : (k : ℕ) (t : List ℕ) → 0 < length t → parts_in (suc k) t ≡ on_piece (piece_of 4 t) (λ j body r. given (declaration_in j body) (λ d. on_option (λ es. d ∷ es) (parts_in k r)))
 unfolding each_in
@@ -107,7 +107,7 @@ decode_record k body h l = rw (record_size k body) (ap (when (leb (6 + length bo
 
 -- the record that t begins with has l bytes
 module _ (t : List ℕ) (bytes : Bytes t) (l : ℕ) (h : Head t l) (more : 0 < length t) where
-  pub part_none : l < 6 → (k : ℕ) → parts_in (suc k) t ≡ none
+  pub part_none : l < 6 → (k : ℕ) → parts_in (suc k) t ≡ None
   part_none m k = some-part k t more ∙ rw (h.none m) refl
 
   module _ (m : 6 ≤ l) where
@@ -132,10 +132,10 @@ module _ (t : List ℕ) (bytes : Bytes t) (l : ℕ) (h : Head t l) (more : 0 < l
     part_step : (k : ℕ) → parts_in (suc k) t ≡ given (decode (take l t)) (λ d. on_option (λ es. d ∷ es) (parts_in k (drop l t)))
     part_step k = some-part k t more ∙ rw (h.some m, part_says) refl
 
-    pub part-bad : decode (take l t) ≡ none → (k : ℕ) → parts_in (suc k) t ≡ none
+    pub part-bad : decode (take l t) ≡ None → (k : ℕ) → parts_in (suc k) t ≡ None
     part-bad e k = part_step k ∙ rw e refl
 
-    module _ (d : Declaration) (e : decode (take l t) ≡ some d) where
+    module _ (d : Declaration) (e : decode (take l t) ≡ Some d) where
       pub part-more : (k : ℕ) → parts_in (suc k) t ≡ on_option (λ es. d ∷ es) (parts_in k (drop l t))
       part-more k = part_step k ∙ rw e refl
 
@@ -147,9 +147,9 @@ module _ (t : List ℕ) (bytes : Bytes t) (l : ℕ) (h : Head t l) (more : 0 < l
 
 -- What makes no sheet.
 
-not-sheet : (ds : List Declaration) (d : Declaration) (o : Option (List Declaration)) → ((es : List Declaration) → is_sheet (ds ++ (d ∷ es)) ≡ false) → sheet_behind ds (on_option (λ es. d ∷ es) o) ≡ none
-not-sheet ds d none f = refl
-not-sheet ds d (some es) f = rw (f es) refl
+not-sheet : (ds : List Declaration) (d : Declaration) (o : Option (List Declaration)) → ((es : List Declaration) → is_sheet (ds ++ (d ∷ es)) ≡ false) → sheet_behind ds (on_option (λ es. d ∷ es) o) ≡ None
+not-sheet ds d None f = refl
+not-sheet ds d (Some es) f = rw (f es) refl
 
 pub too_many : (ds : List Declaration) (d : Declaration) (es : List Declaration) → most_declarations ≤ length ds → is_sheet (ds ++ (d ∷ es)) ≡ false
 unfolding is_sheet
@@ -161,7 +161,7 @@ repeated ds d es h = go (is_sheet (ds ++ (d ∷ es))) refl
   where
     go : (b : Bool) → is_sheet (ds ++ (d ∷ es)) ≡ b → b ≡ false
     go true q =
-        let distinct : first_repeat [] (ds ++ (d ∷ es)) ≡ none = absent-is _ (right (leb (length (ds ++ (d ∷ es))) most_declarations) q) in
+        let distinct : first_repeat [] (ds ++ (d ∷ es)) ≡ None = absent-is _ (right (leb (length (ds ++ (d ∷ es))) most_declarations) q) in
         absurd (false≢true (sym ((first-distinct ds d es).0 ((distinct_append [] ds (d ∷ es)).0 distinct).1).0 ∙ h))
     go false q = refl
 
@@ -182,10 +182,10 @@ module _ (b : List ℕ) (at : ℕ) (bytes : Bytes b) (l : ℕ) (h : Head (take (
   bytes-here = bytes_drop at b bytes
 
   -- a part that ends the walk
-  stopped : ((p : AskedNote b at n prints places) (k : ℕ) → sheet_behind p.declarations (parts_in (suc k) (drop at b)) ≡ none) → NoteIs b at n prints places prints places 0
+  stopped : ((p : AskedNote b at n prints places) (k : ℕ) → sheet_behind p.declarations (parts_in (suc k) (drop at b)) ≡ None) → NoteIs b at n prints places prints places 0
   stopped f p = record { stop = λ _. fuelled; more = λ z. absurd (z refl) }
     where
-      fuelled : (k : ℕ) → length b - at ≤ k → sheet_behind p.declarations (parts_in k (drop at b)) ≡ none
+      fuelled : (k : ℕ) → length b - at ≤ k → sheet_behind p.declarations (parts_in k (drop at b)) ≡ None
       fuelled zero m = absurd (omega (arith, p.inside))
       fuelled (suc k) m = f p k
 
@@ -206,7 +206,7 @@ module _ (b : List ℕ) (at : ℕ) (bytes : Bytes b) (l : ℕ) (h : Head (take (
       abbrev d : Declaration
       d = (present-some r (decode (take l (drop at b))) says_here e).0
 
-      it_is : decode (take l (drop at b)) ≡ some d
+      it_is : decode (take l (drop at b)) ≡ Some d
       it_is = (present-some r (decode (take l (drop at b))) says_here e).1
 
       ended_by : ((p : AskedNote b at n prints places) (es : List Declaration) → is_sheet (p.declarations ++ (d ∷ es)) ≡ false) → NoteIs b at n prints places prints places 0
@@ -256,7 +256,7 @@ pub record Walking (b : List ℕ) (at n : ℕ) (prints places : List ℕ) : Type
   pub declarations : List Declaration
   pub noted : NotedRecords b prints places n declarations
   pub tables : Tables prints places
-  pub distinct : first_repeat [] declarations ≡ none
+  pub distinct : first_repeat [] declarations ≡ None
   pub few : n ≤ most_declarations
   pub inside : at ≤ length b
   pub left : ℕ
@@ -286,8 +286,8 @@ module _ (b prints places : List ℕ) (r : Bool) (h : SheetHead b r) where
   index_none e = h.same ∙ rw e refl
 
 behind_more : (ds : List Declaration) (d : Declaration) (o : Option (List Declaration)) → sheet_behind ds (on_option (λ es. d ∷ es) o) ≡ sheet_behind (ds ++ (d ∷ [])) o
-behind_more ds d none = refl
-behind_more ds d (some es) = ap sheet_of (sym (append_assoc ds (d ∷ []) es))
+behind_more ds d None = refl
+behind_more ds d (Some es) = ap sheet_of (sym (append_assoc ds (d ∷ []) es))
 
 module _ (b : List ℕ) (at n : ℕ) (prints places : List ℕ) (f : Walking b at n prints places) where
   pub walk_asks : at < length b → AskedNote b at n prints places
@@ -327,11 +327,11 @@ module _ (b : List ℕ) (at n : ℕ) (prints places : List ℕ) (f : Walking b a
   walk_end bytes l =
       let few : length f.declarations ≤ most_declarations = omega (arith, noted-length _ _ _ _ _ _ f.noted, f.few) in
       let good : is_sheet f.declarations ≡ true = both (le-leb (length f.declarations) most_declarations few) (rw f.distinct refl) in
-      let last : parts_in f.left (drop at b) ≡ some [] = ap (parts_in f.left) (drop_of_length-le b l) ∙ nothing_left f.left in
-      let sheet : decode_sheet b ≡ some f.declarations = f.rest ∙ ap (sheet_behind f.declarations) last ∙ ap sheet_of (append-nil f.declarations) ∙ rw good refl in
+      let last : parts_in f.left (drop at b) ≡ Some [] = ap (parts_in f.left) (drop_of_length-le b l) ∙ nothing_left f.left in
+      let sheet : decode_sheet b ≡ Some f.declarations = f.rest ∙ ap (sheet_behind f.declarations) last ∙ ap sheet_of (append-nil f.declarations) ∙ rw good refl in
       record { declarations = f.declarations; sheet = sheet; is = ((sheet-exactly b f.declarations bytes).0 sheet).1; noted = f.noted }
     where
-      nothing_left : (k : ℕ) → parts_in k [] ≡ some []
+      nothing_left : (k : ℕ) → parts_in k [] ≡ Some []
       nothing_left zero = refl
       nothing_left (suc k) = refl
 
@@ -341,6 +341,6 @@ module _ (b prints places : List ℕ) (x : Indexed) (f : IndexIs b prints places
   unfolding IndexIs
   sheet-noted n e = rw e at f
 
-  pub sheet-none : x ≡ indexed.IllFormed → decode_sheet b ≡ none
+  pub sheet-none : x ≡ indexed.IllFormed → decode_sheet b ≡ None
   unfolding IndexIs
   sheet-none e = rw e at f

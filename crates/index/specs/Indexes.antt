@@ -1,7 +1,6 @@
 -- What the walk over a sheet record asks, tells and leaves.
 -- Assumes nothing.
-use Rattle.std.specs.Prelude.{◌≡◌, Bool, true, false, List, [], ◌∷◌, ◌++◌, ℕ, suc, ◌+◌, ◌-◌, ◌≤◌, ◌<◌, length, drop}
-use Rattle.std.proofs.Math.Option.{Option, none, some}
+use Rattle.std.specs.Prelude.{◌≡◌, Bool, true, false, List, [], ◌∷◌, ◌++◌, ℕ, suc, ◌+◌, ◌-◌, ◌≤◌, ◌<◌, length, drop, Option, None, Some}
 use Rattle.model.specs.Tree.{Declaration}
 use Rattle.model.specs.Record.{encode, well_formed, given, on_option, when, each_in}
 use Rattle.model.specs.Sheet.{most_declarations, repeats, has, is_sheet, declaration_in, decode_all, encode_sheet, decode_sheet}
@@ -15,7 +14,7 @@ use Rattle.index.specs.declared.Indexed.TheVariants as indexed
 
 -- declarations, if they make a sheet
 abbrev pub sheet_of : List Declaration → Option (List Declaration)
-sheet_of ds = when (is_sheet ds) (some ds)
+sheet_of ds = when (is_sheet ds) (Some ds)
 
 -- the same of declarations and what is read behind them
 abbrev pub sheet_behind : List Declaration → Option (List Declaration) → Option (List Declaration)
@@ -106,7 +105,7 @@ pub record NotedMore (b : List ℕ) (at n : ℕ) (ds : List Declaration) (prints
 
 -- that, or with r 0 there is no sheet
 pub record Noting (b : List ℕ) (at n : ℕ) (ds : List Declaration) (prints places : List ℕ) (r : ℕ) : Type 0 where
-  pub stop : r ≡ 0 → (k : ℕ) → length b - at ≤ k → sheet_behind ds (parts_in k (drop at b)) ≡ none
+  pub stop : r ≡ 0 → (k : ℕ) → length b - at ≤ k → sheet_behind ds (parts_in k (drop at b)) ≡ None
   pub more : (r ≡ 0 → ⊥) → NotedMore b at n ds prints places r
 
 abbrev pub NoteIs : List ℕ → ℕ → ℕ → List ℕ → List ℕ → List ℕ → List ℕ → ℕ → Type 0
@@ -121,10 +120,10 @@ pub record AskedParts (b prints places : List ℕ) : Type 0 where
 -- a well-formed sheet of n declarations, each of which is noted
 pub record SheetNoted (b prints places : List ℕ) (n : ℕ) : Type 0 where
   pub declarations : List Declaration
-  pub sheet : decode_sheet b ≡ some declarations
+  pub sheet : decode_sheet b ≡ Some declarations
   pub is : b ≡ encode_sheet declarations
   pub noted : NotedRecords b prints places n declarations
 
 unfoldable pub IndexIs : List ℕ → List ℕ → List ℕ → Indexed → Type 0
 IndexIs b prints places (indexed.Sheet n) = SheetNoted b prints places n
-IndexIs b prints places indexed.IllFormed = decode_sheet b ≡ none
+IndexIs b prints places indexed.IllFormed = decode_sheet b ≡ None

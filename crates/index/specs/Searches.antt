@@ -1,12 +1,10 @@
 -- What the search in a sheet asks and tells.
 -- Assumes nothing.
-use Rattle.std.specs.Prelude.{◌≡◌, Bool, List, ℕ, ◌*◌, ◌≤◌, length}
-use Rattle.std.proofs.Math.Option.{some}
-use Rattle.model.specs.declared.Search.{Search}
+use Rattle.std.specs.Prelude.{◌≡◌, Bool, List, ℕ, ◌*◌, ◌≤◌, length, Some}
 use Rattle.model.specs.Tree.{Declaration}
 use Rattle.model.specs.Line.{canonical_text}
 use Rattle.model.specs.Sheet.{same_text}
-use Rattle.model.specs.Find.{counted, is_sought, search_in}
+use Rattle.model.specs.Find.{counted, is_sought, search_in, Search}
 use Rattle.repeat.specs.Prints.{print, print_in, OneRecord}
 use Rattle.index.specs.Indexes.{longest_text, RecordAt, NotedRecords}
 
@@ -17,7 +15,7 @@ pub record AskedText (t b : List ℕ) : Type 0 where
 
 -- whether u is its text
 abbrev pub TextIs : List ℕ → List ℕ → Bool → Type 0
-TextIs t u r = (p : OneRecord t) → r ≡ same_text (canonical_text p.declaration) (some u)
+TextIs t u r = (p : OneRecord t) → r ≡ same_text (canonical_text p.declaration) (Some u)
 
 -- a declaration at a place
 pub record OneAt (b : List ℕ) (at : ℕ) : Type 0 where

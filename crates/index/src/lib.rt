@@ -9,7 +9,7 @@ ghost use Rattle.repeat.specs.Prints.{OneRecord};
 ghost use Rattle.index.specs.Indexes.{SheetHead, WholePrint, AskedAt, RepeatsAt, AskedPrint, PrintRepeats, AskedBefore, HasBefore, AskedNote, NoteIs, Tables, AskedParts, IndexIs};
 ghost use Rattle.index.specs.Searches.{AskedText, TextIs, OneAt, CountAt, SoughtAt, AskedSought, SoughtIs, AskedSearch, SearchIs};
 
-use model::{Answer, Refusal, Search};
+use model::{Answer, Found, Missing, Refusal, Refused, Search};
 use record::Checked;
 
 // A record begins with its length in four bytes and its kind in two.
@@ -209,8 +209,8 @@ fn line_is(record: &[u8], text: &[u8], line: &mut [u8]) -> bool
 {
     let r = abi::canonical(record, line);
     match r {
-        Answer::Accepted { length } => text::equal(&line[..length], text),
-        Answer::Refused { refusal, position } => false,
+        Ok(length) => text::equal(&line[..length], text),
+        Err(Refused { refusal, position }) => false,
     }
 }
 
@@ -282,17 +282,17 @@ fn search(sheet: &[u8], text: &[u8], prints: &[u32], places: &[usize], n: usize)
         let at = places[i];
         compared += function_at(sheet, at);
         if is_sought(sheet, prints[i], at, h, text) {
-            return Search::At {
+            return Ok(Found {
                 place: compared,
                 compared,
-            };
+            });
         }
         i += 1;
     }
-    Search::Missing {
+    Err(Missing {
         refusal: Refusal::NoSuchFunction,
         compared,
-    }
+    })
 }
 
 // "answer the place of the function with that text, counting functions only from 1, and how many were compared"
@@ -304,9 +304,9 @@ pub fn find(sheet: &[u8], text: &[u8]) -> Search
     let r = index(sheet, &mut prints, &mut places);
     match r {
         Indexed::Sheet { count } => search(sheet, text, &prints, &places, count),
-        Indexed::IllFormed => Search::Missing {
+        Indexed::IllFormed => Err(Missing {
             refusal: Refusal::NotWellFormed,
             compared: 0,
-        },
+        }),
     }
 }

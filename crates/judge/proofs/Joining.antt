@@ -3,7 +3,8 @@
 use mathlib.Core.Path.{◌≡◌, refl, sym, ◌∙◌, ap, subst}
 use mathlib.Core.Bool.{Bool, true, false, ◌&&◌, and-eq-true_iff}
 use mathlib.Core.List.{List, [], ◌∷◌}
-use mathlib.Core.Option.{Option, none, some, some-injective}
+use Rattle.std.specs.Prelude.{Option, None, Some}
+use Rattle.std.proofs.lemmas.Option.{same_Some}
 use Prim.Native.Nat.{ℕ, ◌+◌, ◌-◌, ◌≤◌, ◌<◌}
 use native.Mathlib.Omega.{arith}
 use lib.Dec.{leb, eqb}
@@ -43,29 +44,29 @@ no_kind_lem : (b : List ℕ) (s : Spot) (k : FieldKind) → s.from ≡ s.to → 
 no_kind_lem b s k e i = let z : s.to - s.from ≡ 0 = omega arith in omega (arith, kind-least (part b s.from s.to) k i, ap (λ n. length (take n (drop s.from b))) z)
 
 -- where it ends is inside
-ended-inside : (b d : List ℕ) (s : Spot) (m : Option Kind) → OpenIs b s m → Data d → (t e : ℕ) → t ≤ length d → ended d m t ≡ some e → (t ≤ e) × (e ≤ length d)
-ended-inside b d s none x q t e h f = let z : t ≡ e = some-injective t e f in omega arith
-ended-inside b d s (some j) (member k i) q t e h f = end-inside (tree_of k) (kind-valid _ k i.is) d q t e h f
+ended-inside : (b d : List ℕ) (s : Spot) (m : Option Kind) → OpenIs b s m → Data d → (t e : ℕ) → t ≤ length d → ended d m t ≡ Some e → (t ≤ e) × (e ≤ length d)
+ended-inside b d s None x q t e h f = let z : t ≡ e = same_Some t e f in omega arith
+ended-inside b d s (Some j) (member k i) q t e h f = end-inside (tree_of k) (kind-valid _ k i.is) d q t e h f
 
 module _ (b d : List ℕ) (o : Open) (end : ℕ) (a : OpenAt b d o) (q : Data d) (l : Inside d o.tail end) where
   pub closes-none : o.kind.from ≡ o.kind.to → Closes b d o end (eqb o.tail end)
-  closes-none e none x = refl
-  closes-none e (some j) (member k i) = absurd (no_kind_lem b o.kind k e i.is)
+  closes-none e None x = refl
+  closes-none e (Some j) (member k i) = absurd (no_kind_lem b o.kind k e i.is)
 
   module _ (z : o.kind.from ≡ o.kind.to → ⊥) where
     pub closes-asks : SomeDynamic (part b o.kind.from o.kind.to)
     closes-asks = go a.some.0 a.some.1
       where
         go : (m : Option Kind) → OpenIs b o.kind m → SomeDynamic (part b o.kind.from o.kind.to)
-        go none (nothing e) = absurd (z e)
-        go (some j) (member k i) = (k, i)
+        go None (nothing e) = absurd (z e)
+        go (Some j) (member k i) = (k, i)
 
     pub closes_data : Data (part d o.tail end)
     closes_data = part_data d o.tail end l.order l.inside q
 
     pub closes-member : (r : Bool) → FitsKind (part b o.kind.from o.kind.to) (part d o.tail end) r → Closes b d o end r
-    closes-member r y none (nothing e) = absurd (z e)
-    closes-member r y (some j) (member k i) = y k i ∙ sym (slice_fits (tree_of k) (kind-valid _ k i.is) d q o.tail end l.order l.inside)
+    closes-member r y None (nothing e) = absurd (z e)
+    closes-member r y (Some j) (member k i) = y k i ∙ sym (slice_fits (tree_of k) (kind-valid _ k i.is) d q o.tail end l.order l.inside)
 
 -- One member more.
 
@@ -76,7 +77,7 @@ module _ (b : List ℕ) (s : Spot) (d : List ℕ) (o : Open) (w : MemberAt b s d
   abbrev L : ℕ
   L = length d
 
-  tail-inside : (m : Option Kind) → OpenIs b o.kind m → (e : ℕ) → ended d m o.tail ≡ some e → (o.tail ≤ e) × (e ≤ L)
+  tail-inside : (m : Option Kind) → OpenIs b o.kind m → (e : ℕ) → ended d m o.tail ≡ Some e → (o.tail ≤ e) × (e ≤ L)
   tail-inside m x e f = ended-inside b d o.kind m x w.ready o.tail e w.before.tail f
 
   -- a dynamic one
@@ -120,9 +121,9 @@ module _ (b : List ℕ) (s : Spot) (d : List ℕ) (o : Open) (w : MemberAt b s d
         pub member-next : r ≡ true → MemberStep b s d o (next.Go (record { head = o.head + 32; tail = c; kind = s }))
         unfolding goes
         member-next f = (
-          record { some = (some (tree_of w.some.0), member w.some.0 (record { is = w.some.1; dynamic = v w.some.0 w.some.1 })); kind = w.kind; head = head-here; tail = h },
+          record { some = (Some (tree_of w.some.0), member w.some.0 (record { is = w.some.1; dynamic = v w.some.0 w.some.1 })); kind = w.kind; head = head-here; tail = h },
           λ k m i y. record {
-            begun = some (tree_of k);
+            begun = Some (tree_of k);
             is = member k (record { is = i; dynamic = v k i });
             same = λ ss. closed k i m y ss ∙ ap (λ u. u && ends_at L (goes k ss c)) (sym (z m y) ∙ f);
           },
@@ -140,20 +141,20 @@ module _ (b : List ℕ) (s : Spot) (d : List ℕ) (o : Open) (w : MemberAt b s d
       answer : (k : FieldKind) → KindIs t k → q ≡ place_or d (end_of d (tree_of k) o.head)
       answer k i = x k (record { is = i; static = v k i }) ∙ ap (place_or d) (once_is (λ a. end_of d (tree_of k) a) o.head)
 
-      within : (k : FieldKind) → KindIs t k → (e : ℕ) → end_of d (tree_of k) o.head ≡ some e → e ≤ L
+      within : (k : FieldKind) → KindIs t k → (e : ℕ) → end_of d (tree_of k) o.head ≡ Some e → e ≤ L
       within k i e f = (static-end d (tree_of k) (v k i) o.head e f).1
 
       stood : (k : FieldKind) → KindIs t k → (m : Option Kind) (ss : List Slot) → tuple_left d m o (slot (is_dynamic (tree_of k)) (λ a. end_of d (tree_of k) a) ∷ ss) ≡ ends_at L (given (ended d m o.tail) (λ e. given (end_of d (tree_of k) o.head) (λ h. follow d ss 0 h e)))
       unfolding follow
       stood k i m ss = ap (λ y. tuple_left d m o (slot y (λ a. end_of d (tree_of k) a) ∷ ss)) (v k i)
 
-      nowhere : (y : Option ℕ) → ends_at L (given y (λ e. none)) ≡ false
-      nowhere none = refl
-      nowhere (some e) = refl
+      nowhere : (y : Option ℕ) → ends_at L (given y (λ e. None)) ≡ false
+      nowhere None = refl
+      nowhere (Some e) = refl
 
       pub static-bad : L < q → MemberStep b s d o next.Stop
       static-bad h k m i y ss =
-          let f : end_of d (tree_of k) o.head ≡ none = place_none d (end_of d (tree_of k) o.head) (within k i) q (answer k i) h in
+          let f : end_of d (tree_of k) o.head ≡ None = place_none d (end_of d (tree_of k) o.head) (within k i) q (answer k i) h in
           stood k i m ss ∙ ap (λ u. ends_at L (given (ended d m o.tail) (λ e. given u (λ a. follow d ss 0 a e)))) f ∙ nowhere (ended d m o.tail)
 
       pub static-next : q ≤ L → MemberStep b s d o (next.Go (record { head = q; tail = o.tail; kind = o.kind }))
@@ -204,13 +205,13 @@ pub judge_start : (b d : List ℕ) (e : Extent) → ExtentsOf b e → SomeFields
 judge_start b d e x s q h = record {
   inside = omega arith;
   ready = q;
-  place = record { some = (none, nothing refl); kind = record { order = omega arith; inside = omega arith }; head = omega arith; tail = h };
+  place = record { some = (None, nothing refl); kind = record { order = omega arith; inside = omega arith }; head = omega arith; tail = h };
   ask = s;
   all = λ fs i.
       let m : heads_length (kinds_of fs) ≡ e.head = cap_exact (heads_length (kinds_of fs)) e.head (sym (x.all fs i).head) (omega (arith, q.small)) in
       let z : 0 + heads_length (kinds_of fs) ≡ e.head = omega arith in (
         fs,
-        none,
+        None,
         i,
         nothing refl,
         tuple-fits (kinds_of fs) d ∙ ap (λ n. leb n (length d) && ends_at (length d) (follow d (slots d (kinds_of fs)) 0 0 n)) z ∙ ap (λ t. t && ends_at (length d) (follow d (slots d (kinds_of fs)) 0 0 e.head)) (le-leb e.head (length d) h),

@@ -3,7 +3,7 @@
 use mathlib.Core.Path.{◌≡◌, refl, sym, ◌∙◌, ap, subst}
 use mathlib.Core.Bool.{Bool, true, false, ◌&&◌}
 use mathlib.Core.List.{List}
-use mathlib.Core.Option.{Option, none, some}
+use Rattle.std.specs.Prelude.{Option, None, Some}
 use Prim.Native.Nat.{ℕ, ◌+◌, ◌≤◌, ◌<◌}
 use native.Mathlib.Omega.{arith}
 use lib.Dec.{eqb}
@@ -51,21 +51,21 @@ module _ (d : List ℕ) (small : length d ≤ 65536) (B : (i : ℕ) → get_or d
 
 -- a test of where something ended, and what goes on there
 module _ (n : ℕ) (T : ℕ → Bool) (F : ℕ → Option ℕ) where
-  pub goes_on : (o : Option ℕ) (c : ℕ) → ((e : ℕ) → o ≡ some e → T e ≡ eqb e c) → ends_at n (given o (λ e. when (T e) (F e))) ≡ (ends_at c o && ends_at n (F c))
-  goes_on none c f = refl
-  goes_on (some e) c f = rw (f e refl) (go (eqb e c) refl)
+  pub goes_on : (o : Option ℕ) (c : ℕ) → ((e : ℕ) → o ≡ Some e → T e ≡ eqb e c) → ends_at n (given o (λ e. when (T e) (F e))) ≡ (ends_at c o && ends_at n (F c))
+  goes_on None c f = refl
+  goes_on (Some e) c f = rw (f e refl) (go (eqb e c) refl)
     where
       go : (b : Bool) → eqb e c ≡ b → ends_at n (when b (F e)) ≡ (b && ends_at n (F c))
       go true p = ap (λ x. ends_at n (F x)) (eqb-true e c p)
       go false p = refl
 
-  pub stops : (o : Option ℕ) → ((e : ℕ) → o ≡ some e → T e ≡ false) → ends_at n (given o (λ e. when (T e) (F e))) ≡ false
-  stops none f = refl
-  stops (some e) f = rw (f e refl)
+  pub stops : (o : Option ℕ) → ((e : ℕ) → o ≡ Some e → T e ≡ false) → ends_at n (given o (λ e. when (T e) (F e))) ≡ false
+  stops None f = refl
+  stops (Some e) f = rw (f e refl)
 
-pub given-same : (o : Option ℕ) → given o (λ e. some e) ≡ o
-given-same none = refl
-given-same (some e) = refl
+pub given-same : (o : Option ℕ) → given o (λ e. Some e) ≡ o
+given-same None = refl
+given-same (Some e) = refl
 
 pub when-ends : (n : ℕ) (t : Bool) (o : Option ℕ) → ends_at n (when t o) ≡ (t && ends_at n o)
 when-ends n true o = refl

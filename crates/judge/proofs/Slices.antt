@@ -3,7 +3,7 @@
 use mathlib.Core.Path.{◌≡◌, refl, sym, ◌∙◌, ap}
 use mathlib.Core.Bool.{true, false≢true}
 use mathlib.Core.List.{List, [], ◌∷◌, ◌++◌, append-nil}
-use mathlib.Core.Option.{Option, none, some}
+use Rattle.std.specs.Prelude.{Option, None, Some}
 use Prim.Native.Nat.{ℕ, zero, suc, ◌+◌, ◌-◌, ◌≤◌}
 use native.Mathlib.Omega.{arith}
 use lib.Dec.{eqb}
@@ -67,17 +67,17 @@ kind-valid t k i = arrays-kind k.suffixes (base_kind k.base) ∙ base-kind k.bas
 
 -- Ends.
 
-pub ends_some : (o : Option ℕ) (c : ℕ) → ends_at c o ≡ true → o ≡ some c
-ends_some none c h = absurd (false≢true h)
-ends_some (some e) c h = ap some (eqb-true e c h)
+pub ends_some : (o : Option ℕ) (c : ℕ) → ends_at c o ≡ true → o ≡ Some c
+ends_some None c h = absurd (false≢true h)
+ends_some (Some e) c h = ap Some (eqb-true e c h)
 
-pub some-ends : (o : Option ℕ) (c : ℕ) → o ≡ some c → ends_at c o ≡ true
+pub some-ends : (o : Option ℕ) (c : ℕ) → o ≡ Some c → ends_at c o ≡ true
 some-ends o c e = rw e (eq-eqb c c refl)
 
 -- a place behind the data stands for none
 pub place-ends : (d : List ℕ) (o : Option ℕ) (r : ℕ) → r ≡ place_or d o → eqb r (length d) ≡ ends_at (length d) o
-place-ends d none r f = ne_eqb r (length d) (λ z. omega arith)
-place-ends d (some e) r f = ap (λ x. eqb x (length d)) f
+place-ends d None r f = ne_eqb r (length d) (λ z. omega arith)
+place-ends d (Some e) r f = ap (λ x. eqb x (length d)) f
 
 -- the whole of the data
 stands-whole : (d : List ℕ) → Stands d 0 d (length d)
@@ -98,7 +98,7 @@ module _ (k : Kind) (g : is_kind k ≡ true) where
   encoding_fits d q p = some-ends (end_of d k 0) (length d) ((exact d q.bytes k g).complete d 0 (length d) p (stands-whole d))
 
   module _ (d : List ℕ) (q : Data d) where
-    pub end-inside : (s e : ℕ) → s ≤ length d → end_of d k s ≡ some e → (s ≤ e) × (e ≤ length d)
+    pub end-inside : (s e : ℕ) → s ≤ length d → end_of d k s ≡ Some e → (s ≤ e) × (e ≤ length d)
     end-inside s e h f = let (u, p, x) = (exact d q.bytes k g).sound s e h f in omega (arith, x.end, x.inside)
 
     pub slice_fits : (s c : ℕ) → s ≤ c → c ≤ length d → ends_at c (end_of d k s) ≡ fits k (part d s c)

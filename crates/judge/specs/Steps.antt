@@ -1,7 +1,6 @@
 -- What the steps into a dynamic kind ask and tell.
 -- Assumes nothing.
-use Rattle.std.specs.Prelude.{◌≡◌, ◌⊎◌, Bool, true, false, ◌&&◌, List, [], ◌∷◌, ◌++◌, ℕ, ◌+◌, ◌*◌, ◌≤◌, ◌<◌, eqb, length, take, drop}
-use Rattle.std.proofs.Math.Option.{Option, none, some}
+use Rattle.std.specs.Prelude.{◌≡◌, ◌⊎◌, Bool, true, false, ◌&&◌, List, [], ◌∷◌, ◌++◌, ℕ, ◌+◌, ◌*◌, ◌≤◌, ◌<◌, eqb, length, take, drop, Option, None, Some}
 use Rattle.kinds.specs.Bytes.{same}
 use Rattle.kinds.specs.Kind.{Suffix, sized, Kind}
 use Rattle.model.specs.Reading.{FieldKind}
@@ -93,16 +92,16 @@ Sorted a b r = (r ≡ record { short = a; long = b }) ⊎ (r ≡ record { short 
 
 -- a member whose tail has begun, by where its kind stands in the records b of the fields; none where that is empty
 pub data OpenIs (b : List ℕ) (s : Spot) : Option Kind → Type 0 where
-  nothing : s.from ≡ s.to → OpenIs b s none
-  member : (k : FieldKind) → DynamicIs (part b s.from s.to) k → OpenIs b s (some (tree_of k))
+  nothing : s.from ≡ s.to → OpenIs b s None
+  member : (k : FieldKind) → DynamicIs (part b s.from s.to) k → OpenIs b s (Some (tree_of k))
 
 abbrev pub SomeOpen : List ℕ → Spot → Type 0
 SomeOpen b s = (m : Option Kind) × OpenIs b s m
 
 -- where it ends, if its tail began at a place
 abbrev pub ended : List ℕ → Option Kind → ℕ → Option ℕ
-ended d none at = some at
-ended d (some k) at = end_of d k at
+ended d None at = Some at
+ended d (Some k) at = end_of d k at
 
 pub record OpenAt (b d : List ℕ) (o : Open) : Type 0 where
   pub some : SomeOpen b o.kind

@@ -1,111 +1,174 @@
--- A kind text that starts with `(`, by how the call ends.
+-- The kind call, by how it ends.
 -- Assumes nothing.
-use mathlib.Core.Path.{◌≡◌, refl, sym, ◌∙◌, ap}
-use mathlib.Core.Bool.{Bool, true, false}
-use mathlib.Core.List.{List}
-use mathlib.Core.Option.{Option, none, some}
-use Prim.Native.Nat.{ℕ, ◌-◌, ◌≤◌, ◌<◌}
-use native.Mathlib.Omega.{arith}
-use native.Mathlib.Nat.{zero-add, sub-zero}
-use lib.ListN.{length, take, drop, length-take}
-use borrow.Author.Tests.{eq-eqb, ne_eqb}
+use Rattle.std.proofs.Common.{◌≡◌, refl, sym, ◌∙◌, ap, Bool, true, false, List, [], ℕ, ◌+◌, ◌-◌, ◌*◌, ◌≤◌, ◌<◌, arith, length, length-take, take, nat_eq, Option, None, Some, Ok, Err}
+use Rattle.std.specs.Option.{option_eq}
+use Rattle.std.proofs.lemmas.Bool.{true≢false}
+use borrow.Author.Tests.{lt-ltb, le-ltb, eq-eqb, ne_eqb, eqb-true, eqb-false}
+use Rattle.kinds.specs.Bytes.{lparen}
 use Rattle.model.specs.declared.Refusal.{Refusal}
-use Rattle.model.specs.declared.Refusal.TheVariants.{TooDeep, Unknown, NoRoom}
-use Rattle.model.specs.declared.Answer.{Answer}
-use Rattle.model.specs.declared.Answer.TheVariants.{Accepted, Refused}
+use Rattle.model.specs.declared.Refusal.TheVariants.{TooLong, NotUtf8, TooDeep, Unknown, NoRoom}
+use Rattle.model.specs.declared.Refused.{Refused}
+use Rattle.model.specs.declared.Mark.TheVariants.{Unmarked}
 use Rattle.model.specs.declared.Sort.TheVariants.{Plain}
-use Rattle.model.specs.Tree.{Field}
+use Rattle.model.specs.Text.{valid_length, peek}
+use Rattle.model.specs.Tree.{Field, field, elementary}
+use Rattle.model.specs.KindText.{err, from_str}
 use Rattle.model.specs.Parser.{Ans, got, bad, on_ans}
-use Rattle.model.specs.Reading.{field_by, tuple_kind, deepest}
-use Rattle.model.specs.Record.{encode_field}
-use Rattle.model.specs.Answer.{writes}
-use Rattle.model.specs.Calls.{written, is_bare, all_of, tuple_by, read_tuple}
-use Rattle.layout.specs.Buffer.{put}
+use Rattle.model.specs.Reading.{admit, field_by, tuple_kind, deepest}
+use Rattle.model.specs.Record.{encode_elementary, encode_field}
+use Rattle.model.specs.Answer.{writes, refuses, Answer, refusal_at, refusing}
+use Rattle.model.specs.Calls.{written, all_of, crowded, is_bare, tuple_by, read_tuple, read_kind, kind_output}
+use Rattle.model.proofs.Bounds.{field-size}
 use Rattle.layout.specs.Answers.{Ends}
 use Rattle.layout.proofs.Answers.{ends-refused, ends-full, ends-written}
-use Rattle.fields.specs.declared.Read.{Read}
-use Rattle.fields.specs.declared.Read.TheVariants.{Got, Bad, Deep}
-use Rattle.fields.specs.Scratch.{to_read, bytes_of, Put, field_of}
-use Rattle.fields.proofs.Family.{is-got, is-bad, is-deep, of-got, of-bad, of-deep}
-use Rattle.value.specs.declared.Place.{Place}
-use Rattle.value.specs.declared.Place.TheVariants.{At, Nowhere}
-use Rattle.kind_call.specs.Scans.{to_place, CrowdIs}
-use Rattle.kind_call.specs.Outputs.{whole_output, tuple_output, Finished, FinishEnds}
+use Rattle.text.specs.Found.{byte_or_end}
+use Rattle.fields.specs.declared.Got.{Got}
+use Rattle.fields.specs.declared.Failed.{Failed}
+use Rattle.fields.specs.declared.Failed.TheVariants.{Bad, Deep}
+use Rattle.fields.specs.Scratch.{Read, to_read, bytes_of, failed, Put, field_of}
+use Rattle.fields.proofs.Family.{is-got, is-failed, of-got, of-failed}
+use Rattle.value.specs.declared.Run.{Run}
+use Rattle.value.specs.Elementary.{to_elementary}
+use Rattle.value.specs.Run.{ReadIs, LeafAt, LeafPut}
+use Rattle.kind_call.specs.Outputs.{lone_output, tuple_output, whole_output}
 
--- a reading that stands in scratch
-module _ (m : ℕ) (c : List ℕ) (r : Read) (p : Finished m c r) where
+-- A text that starts with `(`.
+
+-- a reading into scratch
+module _ (s c : List ℕ) where
   read : Ans Field
-  read = field_by Plain (tuple_kind deepest) p.text 0
+  read = field_by Plain (tuple_kind deepest) s 0
 
-  is : r ≡ to_read (on_ans (encode_field 4) read)
-  unfolding read
-  is = p.put.same
-
-  unknown : (b : List ℕ) (x : Answer) → all_of (length p.text) read ≡ bad Unknown 0 → x ≡ Refused Unknown 0 → Ends (whole_output p.text) b b x
+  unknown : (b : List ℕ) (r : Refused) → r ≡ refusal_at Unknown 0 → all_of (length s) read ≡ bad Unknown 0 → Ends (whole_output s) b b (Err r)
   unfolding whole_output written read
-  unknown b x e f = ends-refused (whole_output p.text) b x Unknown 0 f (rw e)
+  unknown b r e f = ends-refused (whole_output s) b (Err r) Unknown 0 (ap Err e) (rw f)
 
-  pub via_bad : (b : List ℕ) (x : Answer) (v : Refusal) (q : ℕ) → r ≡ Bad v q → x ≡ Refused Unknown 0 → Ends (whole_output p.text) b b x
-  via_bad b x v q e f = unknown b x (ap (all_of (length p.text)) (of-bad (encode_field 4) read v q (is-bad (on_ans (encode_field 4) read) v q (sym e ∙ is)))) f
+  pub whole-failed : (f : Failed) → Put 0 s 0 c (field_of Plain 32 s 0) (Err f) → (b : List ℕ) (r : Refused) → r ≡ refusal_at Unknown 0 → Ends (whole_output s) b b (Err r)
+  unfolding failed read
+  whole-failed f p b r e = unknown b r e (ap (all_of (length s)) (of-failed (encode_field 4) read f (is-failed (on_ans (encode_field 4) read) f p.same)) ∙ go f)
+    where
+      go : (f : Failed) → all_of (length s) (failed f) ≡ bad Unknown 0
+      go (Bad r) = refl
+      go (Deep p) = refl
 
-  pub via_deep : (b : List ℕ) (x : Answer) (q : ℕ) → r ≡ Deep q → x ≡ Refused Unknown 0 → Ends (whole_output p.text) b b x
-  via_deep b x q e f = unknown b x (ap (all_of (length p.text)) (of-deep (encode_field 4) read q (is-deep (on_ans (encode_field 4) read) q (sym e ∙ is)))) f
-
-  module _ (n l : ℕ) (e : r ≡ Got n l) where
+  module _ (g : Got) (p : Put 0 s 0 c (field_of Plain 32 s 0) (Ok g)) where
     bytes : List ℕ
     bytes = bytes_of (on_ans (encode_field 4) read)
 
-    answer : (on_ans (encode_field 4) read ≡ got bytes n) × (l ≡ length bytes)
-    unfolding bytes
-    answer = is-got (on_ans (encode_field 4) read) n l (sym e ∙ is)
-
-    front : take l c ≡ bytes
+    answer : (on_ans (encode_field 4) read ≡ got bytes g.next) × (g.len ≡ length bytes)
     unfolding bytes read
-    front = rw answer.1 (rw zero-add at p.put.wrote.front)
+    answer = is-got (on_ans (encode_field 4) read) g p.same
 
-    pub via_fits : l ≤ length c
-    via_fits = omega (arith, length-take l c, ap length front, answer.1)
+    pub whole-more : (g.next ≡ length s → ⊥) → (b : List ℕ) (r : Refused) → r ≡ refusal_at Unknown 0 → Ends (whole_output s) b b (Err r)
+    whole-more n b r e =
+        let t = of-got (encode_field 4) read bytes g.next answer.0 in
+        unknown b r e (ap (all_of (length s)) t.same ∙ rw (all_of, ne_eqb g.next (length s) n))
 
-    pub via_more : (b : List ℕ) (x : Answer) → (n ≡ m → ⊥) → x ≡ Refused Unknown 0 → Ends (whole_output p.text) b b x
-    via_more b x z f =
-        let t = of-got (encode_field 4) read bytes n answer.0 in
-        unknown b x (ap (all_of (length p.text)) t.same ∙ rw (all_of, ne_eqb n (length p.text) (λ q. z (q ∙ sym p.long)))) f
+    front : take g.len c ≡ bytes
+    unfolding bytes read
+    front = rw answer.1 p.wrote
 
-    module _ (z : n ≡ m) where
-      output : whole_output p.text ≡ writes bytes
-      unfolding whole_output written read
-      output =
-          let t = of-got (encode_field 4) read bytes n answer.0 in
-          ap (λ (a : Ans Field). written (encode_field 4) (all_of (length p.text) a)) t.same ∙ rw (all_of, eq-eqb n (length p.text) (z ∙ p.long)) (ap writes t.bytes)
+    pub whole-fits : g.len ≤ length c
+    whole-fits = omega (arith, length-take g.len c, ap length front, answer.1)
 
-      pub via_full : (b : List ℕ) (x : Answer) → length b < l → x ≡ Refused NoRoom 0 → Ends (whole_output p.text) b b x
-      via_full b x h f = ends-full (whole_output p.text) b x bytes f output (omega (arith, answer.1))
-
-      pub via_done : (b b₁ : List ℕ) → l ≤ length b → b₁ ≡ put 0 (take (l - 0) (drop 0 c)) b → Ends (whole_output p.text) b b₁ (Accepted l)
-      via_done b b₁ h f = ends-written (whole_output p.text) b (Accepted l) bytes b₁ (ap Accepted answer.1) output (omega (arith, answer.1)) ((rw sub-zero at f) ∙ ap (λ (u : List ℕ). put 0 u b) front)
-
--- a reading of a text, finished
-pub finish_ends : (s c₀ c : List ℕ) (r : Read) → Put 0 s 0 0 c₀ c (field_of Plain 32 s 0) r → (b b₁ : List ℕ) (a : Answer) → FinishEnds (length s) c r b b₁ a → Ends (whole_output s) b b₁ a
-finish_ends s c₀ c r w b b₁ a h = h (record { text = s; before = c₀; long = refl; put = w })
+    pub whole-read : g.next ≡ length s → (b b₁ : List ℕ) (r : Answer) → Ends (writes (take g.len c)) b b₁ r → Ends (whole_output s) b b₁ r
+    unfolding whole_output written read
+    whole-read z b b₁ r e = rw output e
+      where
+        output : whole_output s ≡ writes (take g.len c)
+        output =
+            let t = of-got (encode_field 4) read bytes g.next answer.0 in
+            ap (λ a. written (encode_field 4) (all_of (length s) a)) t.same ∙ rw (all_of, eq-eqb g.next (length s) z) (ap writes (t.bytes ∙ sym front))
 
 -- the scans that come first
-module _ (s b : List ℕ) (q : Place) (k : CrowdIs s q) where
-  tuple-by : (o : Option ℕ) → to_place q ≡ o → tuple_output s ≡ written (encode_field 4) (tuple_by s o)
-  unfolding tuple_output read_tuple
-  tuple-by o e = ap (λ (x : Option ℕ). written (encode_field 4) (tuple_by s x)) (sym k ∙ e)
+module _ (s b : List ℕ) where
+  pub tuple-deep : (p : ℕ) → Some p ≡ crowded deepest 0 s → Ends (tuple_output s) b b (refusing TooDeep p)
+  unfolding tuple_output read_tuple written
+  tuple-deep p e = ends-refused (tuple_output s) b (refusing TooDeep p) TooDeep p refl (rw (← e))
 
-  pub tuple-deep : (x : Answer) (p : ℕ) → q ≡ At p → x ≡ Refused TooDeep p → Ends (tuple_output s) b b x
-  unfolding to_place written
-  tuple-deep x p e f = ends-refused (tuple_output s) b x TooDeep p f (tuple-by (some p) (rw e))
+  module _ (e : None ≡ crowded deepest 0 s) where
+    pub tuple_unbare : (r : Refused) → r ≡ refusal_at Unknown 0 → false ≡ is_bare false s → Ends (tuple_output s) b b (Err r)
+    unfolding tuple_output read_tuple written
+    tuple_unbare r f h = ends-refused (tuple_output s) b (Err r) Unknown 0 (ap Err f) (rw (← e, tuple_by, ← h))
 
-  module _ (e : q ≡ Nowhere) (r : Bool) (f : r ≡ is_bare false s) where
-    pub tuple_unbare : (x : Answer) → r ≡ false → x ≡ Refused Unknown 0 → Ends (tuple_output s) b b x
-    unfolding to_place written
-    tuple_unbare x g h = ends-refused (tuple_output s) b x Unknown 0 h (tuple-by none (rw e) ∙ rw (tuple_by, ← f, g))
+    pub tuple-whole : true ≡ is_bare false s → (b₁ : List ℕ) (r : Answer) → Ends (whole_output s) b b₁ r → Ends (tuple_output s) b b₁ r
+    unfolding tuple_output read_tuple whole_output
+    tuple-whole h b₁ r i = rw output i
+      where
+        output : tuple_output s ≡ whole_output s
+        output = rw (← e, tuple_by, ← h)
 
-    bare-output : r ≡ true → tuple_output s ≡ whole_output s
-    unfolding to_place whole_output
-    bare-output g = tuple-by none (rw e) ∙ rw (tuple_by, ← f, g)
+-- A text that does not.
 
-    pub tuple-whole : (b₁ : List ℕ) (x : Answer) → r ≡ true → Ends (whole_output s) b b₁ x → Ends (tuple_output s) b b₁ x
-    tuple-whole b₁ x g h = rw (bare-output g) h
+module _ (s b : List ℕ) where
+  pub lone-refused : (w : Refusal) (r : Refused) → r ≡ refusal_at w 0 → from_str s ≡ err w → Ends (lone_output s) b b (Err r)
+  unfolding lone_output written
+  lone-refused w r e f = ends-refused (lone_output s) b (Err r) w 0 (ap Err e) (rw f)
+
+  module _ (k : Run) (i : ReadIs s k) (n : ℕ) (e : n ≡ 14 + 0 + length (encode_elementary 4 (to_elementary k.base)) + k.len) where
+    bytes-of-lone : List ℕ
+    bytes-of-lone = encode_field 4 (field 0 [] (elementary (to_elementary k.base)) i.suffixes)
+
+    lone-written : lone_output s ≡ writes bytes-of-lone
+    unfolding lone_output written bytes-of-lone
+    lone-written = rw i.same
+
+    lone_needs : length bytes-of-lone ≡ n
+    unfolding bytes-of-lone encode_field
+    lone_needs = omega (arith, field-size 0 [] (elementary (to_elementary k.base)) i.suffixes, e, i.size)
+
+    pub lone-full : (r : Refused) → r ≡ refusal_at NoRoom 0 → length b < n → Ends (lone_output s) b b (Err r)
+    lone-full r f h = ends-full (lone_output s) b (Err r) bytes-of-lone (ap Err f) lone-written (rw lone_needs h)
+
+    pub lone-at : length s ≤ 4096 → n ≤ length b → LeafAt k [] b
+    lone-at h l = record { suffixes = i.suffixes; suffixed = i.suffixed; size = i.size; room = omega (arith, e); small = omega (arith, i.small, i.inside) }
+
+    pub lone-done : (b₁ : List ℕ) → n ≤ length b → LeafPut k Unmarked [] b b₁ → Ends (lone_output s) b b₁ (Ok n)
+    unfolding bytes-of-lone
+    lone-done b₁ l p = ends-written (lone_output s) b (Ok n) bytes-of-lone b₁ (ap Ok (sym lone_needs)) lone-written (omega (arith, lone_needs)) (p i.suffixes i.suffixed)
+
+-- Any text.
+
+module _ (s : List ℕ) where
+  pub admit-long : 4096 < length s → admit read_kind s ≡ bad TooLong 0
+  unfolding admit
+  admit-long h = rw (admit, lt-ltb 4096 (length s) h)
+
+  module _ (n : ℕ) (h : length s ≤ 4096) (q : n ≡ valid_length s) where
+    pub admit_invalid : n < length s → admit read_kind s ≡ bad NotUtf8 n
+    unfolding admit
+    admit_invalid k = rw (admit, le-ltb 4096 (length s) h, ← q, lt-ltb n (length s) k) (ap (bad NotUtf8) (sym q))
+
+    pub admitted : length s ≤ n → admit read_kind s ≡ read_kind s
+    unfolding admit
+    admitted k = rw (admit, le-ltb 4096 (length s) h, ← q, le-ltb n (length s) k)
+
+  pub kind-refused : (r : Refused) → admit read_kind s ≡ bad r.refusal r.position → (b : List ℕ) → Ends (kind_output s) b b (Err r)
+  unfolding kind_output written
+  kind-refused r e b = ends-refused (kind_output s) b (Err r) r.refusal r.position refl (rw e)
+
+  -- past the limits, by the byte that stands first
+  module _ (a : admit read_kind s ≡ read_kind s) (o : Option ℕ) (q : byte_or_end o ≡ peek s 0) (b b₁ : List ℕ) (r : Answer) where
+    opens : (o : Option ℕ) → byte_or_end o ≡ peek s 0 → true ≡ option_eq nat_eq o (Some lparen) → peek s 0 ≡ lparen
+    unfolding byte_or_end
+    opens None f e = absurd (true≢false e)
+    opens (Some c) f e = sym f ∙ eqb-true c lparen (sym e)
+
+    opens-not : (o : Option ℕ) → byte_or_end o ≡ peek s 0 → false ≡ option_eq nat_eq o (Some lparen) → peek s 0 ≡ lparen → ⊥
+    unfolding byte_or_end
+    opens-not None f e g = omega arith
+    opens-not (Some c) f e g = eqb-false c lparen (sym e) (f ∙ g)
+
+    pub kind-tuple : true ≡ option_eq nat_eq o (Some lparen) → Ends (tuple_output s) b b₁ r → Ends (kind_output s) b b₁ r
+    unfolding kind_output tuple_output read_kind
+    kind-tuple e i = rw output i
+      where
+        output : kind_output s ≡ tuple_output s
+        output = ap (written (encode_field 4)) a ∙ rw (read_kind, opens o q e)
+
+    pub kind-lone : false ≡ option_eq nat_eq o (Some lparen) → Ends (lone_output s) b b₁ r → Ends (kind_output s) b b₁ r
+    unfolding kind_output lone_output read_kind
+    kind-lone n i = rw output i
+      where
+        output : kind_output s ≡ lone_output s
+        output = ap (written (encode_field 4)) a ∙ rw (read_kind, ne_eqb (peek s 0) lparen (opens-not o q n))

@@ -1,16 +1,15 @@
 -- What the kind call writes, from the checks that come first to the reading.
 -- Assumes nothing.
-use Rattle.std.specs.Prelude.{◌≡◌, List, ℕ, length}
+use Rattle.std.specs.Prelude.{◌≡◌, List, ℕ, ◌≤◌, length, Result, Ok, Err}
+use Rattle.model.specs.declared.Refused.{Refused}
 use Rattle.model.specs.declared.Sort.TheVariants.{Plain}
-use Rattle.model.specs.declared.Answer.{Answer}
 use Rattle.model.specs.KindText.{from_str}
-use Rattle.model.specs.Reading.{field_by, tuple_kind, deepest}
+use Rattle.model.specs.Parser.{bad}
+use Rattle.model.specs.Tree.{Field}
+use Rattle.model.specs.Reading.{admit, longest_text, field_by, tuple_kind, deepest}
 use Rattle.model.specs.Record.{encode_field}
 use Rattle.model.specs.Answer.{Output}
-use Rattle.model.specs.Calls.{written, lone_field, all_of, read_tuple}
-use Rattle.layout.specs.Answers.{Ends}
-use Rattle.fields.specs.declared.Read.{Read}
-use Rattle.fields.specs.Scratch.{Put, field_of}
+use Rattle.model.specs.Calls.{written, lone_field, all_of, read_kind, read_tuple}
 
 -- of a text that does not start with `(`
 unfoldable pub lone_output : List ℕ → Output
@@ -24,13 +23,7 @@ tuple_output s = written (encode_field 4) (read_tuple s)
 unfoldable pub whole_output : List ℕ → Output
 whole_output s = written (encode_field 4) (all_of (length s) (field_by Plain (tuple_kind deepest) s 0))
 
--- a reading of a text of n bytes, whose record, where there is one, stands in a scratch buffer
-pub record Finished (n : ℕ) (scratch : List ℕ) (r : Read) : Type 0 where
-  pub text : List ℕ
-  pub before : List ℕ
-  pub long : n ≡ length text
-  pub put : Put 0 text 0 0 before scratch (field_of Plain deepest text 0) r
-
--- and what is said and left of it
-abbrev pub FinishEnds : ℕ → List ℕ → Read → List ℕ → List ℕ → Answer → Type 0
-FinishEnds n scratch r b b₁ a = (p : Finished n scratch r) → Ends (whole_output p.text) b b₁ a
+-- whether a text is read at all
+abbrev pub AdmitIs : List ℕ → Result (Unit {0}) Refused → Type 0
+AdmitIs s (Ok u) = (length s ≤ longest_text) × (admit read_kind s ≡ read_kind s)
+AdmitIs s (Err r) = admit read_kind s ≡ bad r.refusal r.position

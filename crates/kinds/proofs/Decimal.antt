@@ -4,7 +4,7 @@ use mathlib.Core.Path.{◌≡◌, refl, sym, ◌∙◌, ap}
 use mathlib.Core.Logic.{◌↔◌}
 use mathlib.Core.Bool.{Bool, true, false}
 use mathlib.Core.List.{List, [], ◌∷◌, ◌++◌, append-nil, append_assoc}
-use mathlib.Core.Option.{Option, none, some}
+use Rattle.std.specs.Prelude.{Option, None, Some}
 use Prim.Native.Nat.{ℕ, zero, suc, ◌+◌, ◌*◌, ◌-◌, ◌/◌, ◌%◌, ◌^◌, ◌≤◌, ◌<◌}
 use native.Mathlib.Omega.{arith}
 use native.Mathlib.Decide.{dec_lt}
@@ -98,53 +98,53 @@ decimal_unzeroed n = go (decimal n) refl
     go (c ∷ d ∷ s) e = ne_eqb c 48 (λ q. let z : d ∷ s ≡ [] = (no_leading-zero n (d ∷ s) (e ∙ rw q)).1 in let y : ◌≡◌ {A = ℕ} 0 1 = cc in omega arith)
 
 -- what is read of a number as it is written, before a limit
-unsigned-digits : (c : ℕ) (s : List ℕ) → all is_digit (c ∷ s) ≡ true → unsigned (c ∷ s) ≡ some (value 0 (c ∷ s))
+unsigned-digits : (c : ℕ) (s : List ℕ) → all is_digit (c ∷ s) ≡ true → unsigned (c ∷ s) ≡ Some (value 0 (c ∷ s))
 unfolding unsigned
 unsigned-digits c s h = rw (h, unsigned)
 
-pub decimal-unsigned : (n : ℕ) → unsigned (decimal n) ≡ some n
+pub decimal-unsigned : (n : ℕ) → unsigned (decimal n) ≡ Some n
 decimal-unsigned n =
     let (c, s, e) = decimal_cons n in
     cc (e, unsigned-digits c s (rw e at (decimal-digits n)), decimal-value n)
 
 -- the limit
-under_limit : (m : ℕ) (o : Option ℕ) (n : ℕ) → at_most m o ≡ some n → n ≤ m
-under_limit m none n e = let z : ◌≡◌ {A = ℕ} 0 1 = cc in omega arith
-under_limit m (some k) n e = go (leb k m) refl
+under_limit : (m : ℕ) (o : Option ℕ) (n : ℕ) → at_most m o ≡ Some n → n ≤ m
+under_limit m None n e = let z : ◌≡◌ {A = ℕ} 0 1 = cc in omega arith
+under_limit m (Some k) n e = go (leb k m) refl
   where
     go : (b : Bool) → leb k m ≡ b → n ≤ m
     go true l = let q : k ≡ n = cc in omega (arith, leb-true k m l)
     go false l = let z : ◌≡◌ {A = ℕ} 0 1 = cc in omega arith
 
-plain-bound : (m : ℕ) (t : List ℕ) (n : ℕ) → plain m t ≡ some n → n ≤ m
+plain-bound : (m : ℕ) (t : List ℕ) (n : ℕ) → plain m t ≡ Some n → n ≤ m
 unfolding plain
 plain-bound m t = under_limit m (unsigned t)
 
 -- a number is digits, and no zero leads
-number_read : (m : ℕ) (t : List ℕ) (n : ℕ) → number m t ≡ some n → (leading_zero t ≡ false) × (plain m t ≡ some n)
+number_read : (m : ℕ) (t : List ℕ) (n : ℕ) → number m t ≡ Some n → (leading_zero t ≡ false) × (plain m t ≡ Some n)
 unfolding number
 number_read m t n e = go (leading_zero t) refl
   where
-    go : (b : Bool) → leading_zero t ≡ b → (leading_zero t ≡ false) × (plain m t ≡ some n)
-    go true q = let f : none ≡ some n = rw (number, q) at e in let z : ◌≡◌ {A = ℕ} 0 1 = cc in absurd (omega arith)
+    go : (b : Bool) → leading_zero t ≡ b → (leading_zero t ≡ false) × (plain m t ≡ Some n)
+    go true q = let f : None ≡ Some n = rw (number, q) at e in let z : ◌≡◌ {A = ℕ} 0 1 = cc in absurd (omega arith)
     go false q = (q, rw (number, q) at e)
 
-pub number_bound : (m : ℕ) (t : List ℕ) (n : ℕ) → number m t ≡ some n → n ≤ m
+pub number_bound : (m : ℕ) (t : List ℕ) (n : ℕ) → number m t ≡ Some n → n ≤ m
 number_bound m t n e = plain-bound m t n (number_read m t n e).1
 
-pub written-read-plain : (m n : ℕ) → (plain m (decimal n) ≡ some n) ↔ (n ≤ m)
+pub written-read-plain : (m n : ℕ) → (plain m (decimal n) ≡ Some n) ↔ (n ≤ m)
 unfolding plain
 written-read-plain m n = (plain-bound m (decimal n) n, λ h. rw (decimal-unsigned n, le-leb n m h, at_most))
 
-pub written_over_plain : (m n : ℕ) → m < n → plain m (decimal n) ≡ none
+pub written_over_plain : (m n : ℕ) → m < n → plain m (decimal n) ≡ None
 unfolding plain
 written_over_plain m n h = rw (decimal-unsigned n, lt-leb n m h, at_most)
 
-pub written_read : (m n : ℕ) → (number m (decimal n) ≡ some n) ↔ (n ≤ m)
+pub written_read : (m n : ℕ) → (number m (decimal n) ≡ Some n) ↔ (n ≤ m)
 unfolding number
 written_read m n = rw (number, decimal_unzeroed n) (written-read-plain m n)
 
-pub written_over : (m n : ℕ) → m < n → number m (decimal n) ≡ none
+pub written_over : (m n : ℕ) → m < n → number m (decimal n) ≡ None
 unfolding number
 written_over m n h = rw (number, decimal_unzeroed n) (written_over_plain m n h)
 
@@ -179,25 +179,25 @@ digits_decimal c (d ∷ s) h z =
     sym (ap (λ x. x ++ (d ∷ s)) (one-digit c (left _ h))) ∙ more-digits (d ∷ s) (0 * 10 + (c - 48)) (omega arith) (right (is_digit c) h)
 
 -- the digits that stand for a number within a limit
-at-most-value : (m : ℕ) (o : Option ℕ) (n : ℕ) → at_most m o ≡ some n → o ≡ some n
-at-most-value m none n e = e
-at-most-value m (some k) n e = go (leb k m) refl
+at-most-value : (m : ℕ) (o : Option ℕ) (n : ℕ) → at_most m o ≡ Some n → o ≡ Some n
+at-most-value m None n e = e
+at-most-value m (Some k) n e = go (leb k m) refl
   where
-    go : (b : Bool) → leb k m ≡ b → some k ≡ some n
+    go : (b : Bool) → leb k m ≡ b → Some k ≡ Some n
     go true l = rw (at_most, l) at e
-    go false l = let f : none ≡ some n = rw (at_most, l) at e in let z : ◌≡◌ {A = ℕ} 0 1 = cc in absurd (omega arith)
+    go false l = let f : None ≡ Some n = rw (at_most, l) at e in let z : ◌≡◌ {A = ℕ} 0 1 = cc in absurd (omega arith)
 
-unsigned-value : (c : ℕ) (s : List ℕ) (n : ℕ) → unsigned (c ∷ s) ≡ some n → (all is_digit (c ∷ s) ≡ true) × (value 0 (c ∷ s) ≡ n)
+unsigned-value : (c : ℕ) (s : List ℕ) (n : ℕ) → unsigned (c ∷ s) ≡ Some n → (all is_digit (c ∷ s) ≡ true) × (value 0 (c ∷ s) ≡ n)
 unfolding unsigned
 unsigned-value c s n e = go (all is_digit (c ∷ s)) refl
   where
     go : (b : Bool) → all is_digit (c ∷ s) ≡ b → (all is_digit (c ∷ s) ≡ true) × (value 0 (c ∷ s) ≡ n)
-    go true q = let f : some (value 0 (c ∷ s)) ≡ some n = rw (unsigned, q) at e in (q, cc)
-    go false q = let f : none ≡ some n = rw (unsigned, q) at e in let z : ◌≡◌ {A = ℕ} 0 1 = cc in absurd (omega arith)
+    go true q = let f : Some (value 0 (c ∷ s)) ≡ Some n = rw (unsigned, q) at e in (q, cc)
+    go false q = let f : None ≡ Some n = rw (unsigned, q) at e in let z : ◌≡◌ {A = ℕ} 0 1 = cc in absurd (omega arith)
 
-pub number-exact : (m : ℕ) (t : List ℕ) (n : ℕ) → number m t ≡ some n → t ≡ decimal n
+pub number-exact : (m : ℕ) (t : List ℕ) (n : ℕ) → number m t ≡ Some n → t ≡ decimal n
 unfolding plain unsigned
-number-exact m [] n e = let f : none ≡ some n = (number_read m [] n e).1 in let z : ◌≡◌ {A = ℕ} 0 1 = cc in absurd (omega arith)
+number-exact m [] n e = let f : None ≡ Some n = (number_read m [] n e).1 in let z : ◌≡◌ {A = ℕ} 0 1 = cc in absurd (omega arith)
 number-exact m (c ∷ s) n e =
     let (z, p) = number_read m (c ∷ s) n e in
     let (d, v) = unsigned-value c s n (at-most-value m (unsigned (c ∷ s)) n p) in

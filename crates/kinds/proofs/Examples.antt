@@ -3,7 +3,7 @@
 use mathlib.Core.Path.{◌≡◌, refl}
 use mathlib.Core.Bool.{true, false}
 use mathlib.Core.List.{[], ◌∷◌, map}
-use mathlib.Core.Option.{none, some}
+use Rattle.std.specs.Prelude.{None, Some}
 use Prim.Native.Nat.{◌-◌, ◌^◌}
 use Rattle.kinds.specs.Bytes.{ascii}
 use Rattle.kinds.specs.Decimal.{digits, decimal, unsigned, plain, number}
@@ -23,12 +23,12 @@ unfolding decimal digits
 largest = refl
 
 -- order 7: "no sign and no leading zero, `0` itself excepted"; and a limit counts the value
-numbers : map (number 256) (ascii "256" ∷ ascii "257" ∷ ascii "0" ∷ ascii "10" ∷ ascii "8" ∷ ascii "08" ∷ ascii "00" ∷ ascii "00008" ∷ ascii "+8" ∷ ascii "-8" ∷ ascii "+" ∷ ascii "" ∷ []) ≡ some 256 ∷ none ∷ some 0 ∷ some 10 ∷ some 8 ∷ none ∷ none ∷ none ∷ none ∷ none ∷ none ∷ none ∷ []
+numbers : map (number 256) (ascii "256" ∷ ascii "257" ∷ ascii "0" ∷ ascii "10" ∷ ascii "8" ∷ ascii "08" ∷ ascii "00" ∷ ascii "00008" ∷ ascii "+8" ∷ ascii "-8" ∷ ascii "+" ∷ ascii "" ∷ []) ≡ Some 256 ∷ None ∷ Some 0 ∷ Some 10 ∷ Some 8 ∷ None ∷ None ∷ None ∷ None ∷ None ∷ None ∷ None ∷ []
 unfolding number plain unsigned
 numbers = refl
 
 -- of digits alone leading zeros do not count
-plain-numbers : map (plain 256) (ascii "8" ∷ ascii "008" ∷ ascii "+8" ∷ []) ≡ some 8 ∷ some 8 ∷ none ∷ []
+plain-numbers : map (plain 256) (ascii "8" ∷ ascii "008" ∷ ascii "+8" ∷ []) ≡ Some 8 ∷ Some 8 ∷ None ∷ []
 unfolding plain unsigned
 plain-numbers = refl
 

@@ -4,7 +4,7 @@ use mathlib.Core.Path.{◌≡◌, refl, ◌∙◌, ap}
 use mathlib.Core.Logic.{◌↔◌}
 use mathlib.Core.Bool.{true, false}
 use mathlib.Core.List.{List, [], ◌∷◌, ◌++◌, append_assoc, append-nil}
-use mathlib.Core.Option.{some}
+use Rattle.std.specs.Prelude.{Some}
 use Prim.Native.Nat.{ℕ}
 use lib.Dec.{eqb}
 use lib.Seq.{ext_get_or}
@@ -17,7 +17,7 @@ use Rattle.kinds.proofs.Decimal.{decimal-value, decimal-word, decimal-unsigned}
 use Rattle.kinds.proofs.Machine.{elementary_of, suffix_of, Place, at, State, in_name, in_word, after_kind, in_suffix, snoc, add, open_list, close, stop, stop_word, step, feed, found}
 
 -- a kind that holds no kind is read back from its text, which is of word bytes
-elementary-read : (e : Elementary) → elementary_of (elementary_text e) ≡ some e
+elementary-read : (e : Elementary) → elementary_of (elementary_text e) ≡ Some e
 unfolding elementary_of elementary_text unsigned
 elementary-read (int (bits m)) = rw (decimal-value m)
 elementary-read (uint (bits m)) = rw (decimal-value m)

@@ -2,7 +2,7 @@
 -- Assumes nothing.
 use mathlib.Core.Bool.{Bool, true, false, ◌&&◌, cond}
 use mathlib.Core.List.{List, [], ◌∷◌, ◌++◌, foldl}
-use mathlib.Core.Option.{Option, none, some}
+use Rattle.std.specs.Prelude.{Option, None, Some}
 use Prim.Native.Nat.{ℕ}
 use lib.Dec.{eqb}
 use lib.ListN.{drop}
@@ -17,23 +17,23 @@ starts (c ∷ p) [] = false
 starts (c ∷ p) (d ∷ s) = eqb c d && starts p s
 
 abbrev bytes_of : Option ℕ → Elementary
-bytes_of none = bytes
-bytes_of (some m) = fixed_bytes (octets m)
+bytes_of None = bytes
+bytes_of (Some m) = fixed_bytes (octets m)
 
 -- the kind that a word is, by its first letters
 unfoldable pub elementary_of : List ℕ → Option Elementary
 elementary_of s =
-    cond (starts (ascii "i") s) (some (int (bits (value 0 (drop 3 s)))))
-    (cond (starts (ascii "u") s) (some (uint (bits (value 0 (drop 4 s)))))
-    (cond (starts (ascii "by") s) (some (bytes_of (unsigned (drop 5 s))))
-    (cond (starts (ascii "a") s) (some address)
-    (cond (starts (ascii "b") s) (some bool)
-    (cond (starts (ascii "f") s) (some function)
-    (cond (starts (ascii "s") s) (some string) none))))))
+    cond (starts (ascii "i") s) (Some (int (bits (value 0 (drop 3 s)))))
+    (cond (starts (ascii "u") s) (Some (uint (bits (value 0 (drop 4 s)))))
+    (cond (starts (ascii "by") s) (Some (bytes_of (unsigned (drop 5 s))))
+    (cond (starts (ascii "a") s) (Some address)
+    (cond (starts (ascii "b") s) (Some bool)
+    (cond (starts (ascii "f") s) (Some function)
+    (cond (starts (ascii "s") s) (Some string) None))))))
 
 abbrev pub suffix_of : Option ℕ → Suffix
-suffix_of none = unsized
-suffix_of (some n) = sized n
+suffix_of None = unsized
+suffix_of (Some n) = sized n
 
 -- the list being read: what was read whole before it, its name, its kinds so far, and the lists around it, innermost first
 pub data Place : Type 0 where
@@ -63,8 +63,8 @@ unfoldable pub stop : Place → Kind → ℕ → State
 stop p k c = cond (eqb c lbracket) (in_suffix p k []) (cond (eqb c comma) (in_word (add p k) []) (close (add p k)))
 
 unfoldable pub stop_word : Place → Option Elementary → ℕ → State
-stop_word p none c = close p
-stop_word p (some e) c = stop p (elementary e) c
+stop_word p None c = close p
+stop_word p (Some e) c = stop p (elementary e) c
 
 unfoldable pub step : State → ℕ → State
 step (in_name done n) c = cond (is_word_byte c) (in_name done (n ++ (c ∷ []))) (in_word (at done n no_kind []) [])

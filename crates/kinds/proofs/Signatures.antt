@@ -4,7 +4,7 @@ use mathlib.Core.Path.{◌≡◌, refl, sym, ◌∙◌, ap}
 use mathlib.Core.Logic.{◌↔◌}
 use mathlib.Core.Bool.{Bool, true, false, cond}
 use mathlib.Core.List.{List, [], ◌∷◌, ◌++◌, append_assoc}
-use mathlib.Core.Option.{Option, none, some}
+use Rattle.std.specs.Prelude.{Option, None, Some}
 use Prim.Native.Nat.{ℕ}
 use native.Mathlib.Omega.{arith}
 use lib.Dec.{eqb}
@@ -54,8 +54,8 @@ module _ (p : Prototype) where
 
   word-begun : (q : Place) (o : Option Elementary) (c : ℕ) → PlaceBegun p q → StateBegun p (stop_word q o c)
   unfolding stop_word
-  word-begun q none c h = close-begun q h
-  word-begun q (some e) c h = stop-begun q (elementary e) c h
+  word-begun q None c h = close-begun q h
+  word-begun q (Some e) c h = stop-begun q (elementary e) c h
 
   step-begun : (s : State) (c : ℕ) → StateBegun p s → StateBegun p (step s c)
   unfolding step

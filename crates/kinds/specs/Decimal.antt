@@ -1,7 +1,6 @@
 -- Numbers in texts: plain decimal as it is written, and numbers as they are read.
 -- Assumes nothing.
-use Rattle.std.specs.Prelude.{Bool, true, false, List, [], ◌∷◌, ◌++◌, ℕ, zero, suc, ◌+◌, ◌*◌, ◌-◌, ◌/◌, ◌%◌, leb, ltb, eqb}
-use Rattle.std.proofs.Math.Option.{Option, none, some}
+use Rattle.std.specs.Prelude.{Bool, true, false, List, [], ◌∷◌, ◌++◌, ℕ, zero, suc, ◌+◌, ◌*◌, ◌-◌, ◌/◌, ◌%◌, leb, ltb, eqb, Option, None, Some}
 use Rattle.kinds.specs.Bytes.{all, is_digit}
 
 -- the last f digits of n, with no digit 0 in front
@@ -20,13 +19,13 @@ value v (c ∷ cs) = value (v * 10 + (c - 48)) cs
 
 -- "at least one digit"
 unfoldable pub unsigned : List ℕ → Option ℕ
-unsigned [] = none
-unsigned (c ∷ s) = elim (all is_digit (c ∷ s)) [ true ↦ some (value 0 (c ∷ s)) | false ↦ none ]
+unsigned [] = None
+unsigned (c ∷ s) = elim (all is_digit (c ∷ s)) [ true ↦ Some (value 0 (c ∷ s)) | false ↦ None ]
 
 -- a number that is at most m
 abbrev pub at_most : ℕ → Option ℕ → Option ℕ
-at_most m none = none
-at_most m (some n) = elim (leb n m) [ true ↦ some n | false ↦ none ]
+at_most m None = None
+at_most m (Some n) = elim (leb n m) [ true ↦ Some n | false ↦ None ]
 
 -- digits alone, with a value of at most m; leading zeros do not count
 unfoldable pub plain : ℕ → List ℕ → Option ℕ
@@ -40,4 +39,4 @@ leading_zero (c ∷ d ∷ s) = eqb c 48
 
 -- Order 7: "A number now has no sign and no leading zero, `0` itself excepted". Its value is at most m
 unfoldable pub number : ℕ → List ℕ → Option ℕ
-number m t = elim (leading_zero t) [ true ↦ none | false ↦ plain m t ]
+number m t = elim (leading_zero t) [ true ↦ None | false ↦ plain m t ]

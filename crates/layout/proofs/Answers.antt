@@ -1,5 +1,6 @@
 -- What a call says and leaves, by how it ends: refused, too little room, or written.
 -- Assumes nothing.
+use Rattle.std.specs.Prelude.{Ok}
 use mathlib.Core.Path.{◌≡◌, refl, ◌∙◌}
 use mathlib.Core.Logic.{◌↔◌}
 use mathlib.Core.Bool.{Bool, true, false}
@@ -12,22 +13,20 @@ use lib.ListN.{length, drop, length-append, length-drop}
 use borrow.Author.Tests.{lt-ltb, le-ltb, ltb-true, ltb-false}
 use Rattle.model.specs.declared.Refusal.{Refusal}
 use Rattle.model.specs.declared.Refusal.TheVariants.{NoRoom}
-use Rattle.model.specs.declared.Answer.{Answer}
-use Rattle.model.specs.declared.Answer.TheVariants.{Accepted, Refused}
-use Rattle.model.specs.Answer.{accepted, refused, Output, writes, refuses, number, said, needed, outcome, after}
+use Rattle.model.specs.Answer.{accepted, refused, Output, writes, refuses, number, said, needed, outcome, after, Answer, refusing}
 use Rattle.layout.specs.Answers.{Ends}
 use Rattle.layout.specs.Buffer.{put}
 
 module _ (o : Output) (b : List ℕ) (r : Answer) where
-  pub ends-refused : (w : Refusal) (p : ℕ) → r ≡ Refused w p → o ≡ refuses w p → Ends o b b r
+  pub ends-refused : (w : Refusal) (p : ℕ) → r ≡ refusing w p → o ≡ refuses w p → Ends o b b r
   unfolding said outcome after
   ends-refused w p e f = (rw (e, f), rw f)
 
-  pub ends-full : (u : List ℕ) → r ≡ Refused NoRoom 0 → o ≡ writes u → length b < length u → Ends o b b r
+  pub ends-full : (u : List ℕ) → r ≡ refusing NoRoom 0 → o ≡ writes u → length b < length u → Ends o b b r
   unfolding said outcome after
   ends-full u e f h = (rw (e, f, outcome, lt-ltb (length b) (length u) h), rw (f, after, lt-ltb (length b) (length u) h))
 
-  pub ends-written : (u b₁ : List ℕ) → r ≡ Accepted (length u) → o ≡ writes u → length u ≤ length b → b₁ ≡ put 0 u b → Ends o b b₁ r
+  pub ends-written : (u b₁ : List ℕ) → r ≡ Ok (length u) → o ≡ writes u → length u ≤ length b → b₁ ≡ put 0 u b → Ends o b b₁ r
   unfolding said outcome after put
   ends-written u b₁ e f h g = (rw (e, f, outcome, le-ltb (length b) (length u) h), rw (f, after, le-ltb (length b) (length u) h) (g ∙ rw zero-add))
 

@@ -7,10 +7,6 @@ use Rattle.model.specs.Layout.{little_endian}
 unfoldable pub put : ℕ → List ℕ → List ℕ → List ℕ
 put o u b = take o b ++ (u ++ drop (o + length u) b)
 
--- the bytes from `at` up to `end` once more, n bytes further
-unfoldable pub shifted : ℕ → ℕ → ℕ → List ℕ → List ℕ
-shifted at end n b = put (at + n) (take (end - at) (drop at b)) b
-
 -- the bytes u before those from `at` up to `end`
 unfoldable pub inserted : ℕ → ℕ → List ℕ → List ℕ → List ℕ
 inserted at end u b = put at (u ++ take (end - at) (drop at b)) b

@@ -2,27 +2,10 @@
 // documents say of each. It was written by stdout.py, which has the rule of document 02 and knows nothing of this program.
 #![tactic(auto)]
 
-ghost use Rattle.std.specs.Prelude.{◌≤◌, length};
-
-use model::Answer;
-use std::io;
-
-// The kinds of record.
-const TUPLE: u8 = 0x9;
-
-const FIELD: u8 = 0x10;
-
-const NAME: u8 = 0x11;
-
-const LIST: u8 = 0x12;
-
-const FUNCTION: u8 = 0x20;
-
-const CONSTRUCTOR: u8 = 0x21;
-
-const EVENT: u8 = 0x22;
-
-const ERROR: u8 = 0x23;
+use arrayvec::ArrayVec;
+use layout::{CONSTRUCTOR, ERROR, EVENT, FIELD, FUNCTION, LIST, NAME, TUPLE};
+use model::Call;
+use std::{fmt, io};
 
 // "mutability, 2 bytes (0 pure, 1 view, 2 none stated, 3 payable)"
 const NOT_STATED: u8 = 2;
@@ -30,8 +13,11 @@ const NOT_STATED: u8 = 2;
 // The marks that are tried: document 02's, and one more.
 const MARKS: u8 = 5;
 
+// No record here is longer, and no line.
+const LONGEST: usize = 128;
+
 // Where a field stands.
-#[derive(Clone, Copy)]
+#[derive(Clone, Copy, Debug, PartialEq, Eq)]
 enum Place {
     Inputs,
     Outputs,
@@ -42,375 +28,226 @@ enum Place {
     Alone,
 }
 
-fn print_number<R: Print>(rt: &R, n: u64) -> io::Result<()> {
-    print!(rt; "{n}")
-}
-
-fn print_place<R: Print>(rt: &R, place: Place) -> io::Result<()> {
-    match place {
-        Place::Inputs => tables::print(rt, b"inputs"),
-        Place::Outputs => tables::print(rt, b"outputs"),
-        Place::Constructor => tables::print(rt, b"constructor"),
-        Place::Tuple => tables::print(rt, b"tuple"),
-        Place::Event => tables::print(rt, b"event"),
-        Place::Error => tables::print(rt, b"error"),
-        Place::Alone => tables::print(rt, b"alone"),
+impl fmt::Display for Place {
+    fn fmt<W: fmt::Write>(&self, f: &mut fmt::Formatter<W>) -> fmt::Result {
+        f.write_str(match self {
+            Place::Inputs => "inputs",
+            Place::Outputs => "outputs",
+            Place::Constructor => "constructor",
+            Place::Tuple => "tuple",
+            Place::Event => "event",
+            Place::Error => "error",
+            Place::Alone => "alone",
+        })
     }
 }
 
-// Records, written into a buffer; each function answers the place behind what it wrote.
+// Records. What has no room is left out.
 
-// Writes nothing where there is no room.
-fn put(out: &mut [u8], at: usize, bytes: &[u8]) -> usize
-    requires { at ≤ length out.old }
-    ensures { result ≤ length out.new }
-{
-    if bytes.len() <= out.len() - at {
-        layout::copy(out, at, bytes);
-        return at + bytes.len();
-    }
-    at
-}
-
-// The head of a record whose length is not known yet.
-fn open(out: &mut [u8], at: usize, kind: u8) -> usize
-    requires { at ≤ length out.old }
-    ensures { result ≤ length out.new }
-{
-    put(out, at, &[0, 0, 0, 0, kind, 0])
-}
-
-// The length of the record that was opened at a place, where it ends; no record here has 256 bytes.
-fn close(out: &mut [u8], at: usize, end: usize) -> usize
-    requires { end ≤ length out.old }
-    ensures { result ≤ length out.new }
-{
-    if at < end {
-        out[at] = ((end - at) % 256) as u8;
-    }
-    end
-}
-
-fn name(out: &mut [u8], at: usize, name: &[u8]) -> usize
-    requires { at ≤ length out.old }
-    ensures { result ≤ length out.new }
-{
-    let a = open(out, at, NAME);
-    let b = put(out, a, name);
-    close(out, at, b)
-}
+type Record = ArrayVec<u8, LONGEST>;
 
 // A field with a mark, a name, and a kind whose records are given.
-fn field(out: &mut [u8], at: usize, mark: u8, word: &[u8], kind: &[u8]) -> usize
-    requires { at ≤ length out.old }
-    ensures { result ≤ length out.new }
+#[derive(Clone, Copy)]
+struct Field<'a> {
+    mark: u8,
+    name: &'a [u8],
+    kind: &'a [u8],
+}
+
+fn put(out: &mut Record, bytes: &[u8]) {
+    for &byte in bytes {
+        let _ = out.try_push(byte);
+    }
+}
+
+// A record of a kind around what `body` puts into it; none here has 256 bytes.
+fn put_record<F: FnOnce(&mut Record)>(out: &mut Record, kind: usize, body: F)
+    requires { F.IsAlwaysCallable body }
 {
-    let a = open(out, at, FIELD);
-    let b = put(out, a, &[mark, 0]);
-    let c = name(out, b, word);
-    let d = put(out, c, kind);
-    close(out, at, d)
+    let at = out.len();
+    put(out, &[0, 0, 0, 0, (kind % 256) as u8, 0]);
+    body(out);
+    let length = out.len().saturating_sub(at);
+    if let Some(first) = out.as_mut_slice().get_mut(at) {
+        *first = (length % 256) as u8;
+    }
+}
+
+fn put_name(out: &mut Record, name: &[u8]) {
+    put_record(out, NAME, |out| put(out, name));
+}
+
+fn put_field(out: &mut Record, field: Field) {
+    put_record(out, FIELD, |out| {
+        put(out, &[field.mark, 0]);
+        put_name(out, field.name);
+        put(out, field.kind);
+    });
 }
 
 // A list of that field alone.
-fn list(out: &mut [u8], at: usize, mark: u8, word: &[u8], kind: &[u8]) -> usize
-    requires { at ≤ length out.old }
-    ensures { result ≤ length out.new }
-{
-    let a = open(out, at, LIST);
-    let b = field(out, a, mark, word, kind);
-    close(out, at, b)
+fn put_list(out: &mut Record, field: Field) {
+    put_record(out, LIST, |out| put_field(out, field));
 }
 
-fn empty(out: &mut [u8], at: usize) -> usize
-    requires { at ≤ length out.old }
-    ensures { result ≤ length out.new }
-{
-    let a = open(out, at, LIST);
-    close(out, at, a)
+fn put_empty(out: &mut Record) {
+    put_record(out, LIST, |_| ());
 }
 
-// A tuple of that field alone.
-fn tuple(out: &mut [u8], at: usize, mark: u8, word: &[u8], kind: &[u8]) -> usize
-    requires { at ≤ length out.old }
-    ensures { result ≤ length out.new }
-{
-    let a = open(out, at, TUPLE);
-    let b = field(out, a, mark, word, kind);
-    close(out, at, b)
+// A list of a field, unmarked and without a name, that is a tuple of that field alone.
+fn put_grouped(out: &mut Record, field: Field) {
+    let mut tuple = Record::new();
+    put_record(&mut tuple, TUPLE, |out| put_field(out, field));
+    put_list(
+        out,
+        Field {
+            mark: 0,
+            name: b"",
+            kind: &tuple,
+        },
+    );
 }
 
-// A field, unmarked and without a name, that is such a tuple.
-fn group(out: &mut [u8], at: usize, mark: u8, word: &[u8], kind: &[u8]) -> usize
-    requires { at ≤ length out.old }
-    ensures { result ≤ length out.new }
+// A function `f` with lists that are given.
+fn put_function<F: FnOnce(&mut Record)>(out: &mut Record, lists: F)
+    requires { F.IsAlwaysCallable lists }
 {
-    let a = open(out, at, FIELD);
-    let b = put(out, a, &[0, 0]);
-    let c = name(out, b, b"");
-    let d = tuple(out, c, mark, word, kind);
-    close(out, at, d)
-}
-
-// A list of that tuple alone.
-fn grouped(out: &mut [u8], at: usize, mark: u8, word: &[u8], kind: &[u8]) -> usize
-    requires { at ≤ length out.old }
-    ensures { result ≤ length out.new }
-{
-    let a = open(out, at, LIST);
-    let b = group(out, a, mark, word, kind);
-    close(out, at, b)
-}
-
-// The record of a function `f` up to its inputs.
-fn function(out: &mut [u8]) -> usize
-    ensures { result ≤ length out.new }
-{
-    let a = open(out, 0, FUNCTION);
-    let b = put(out, a, &[NOT_STATED, 0]);
-    name(out, b, b"f")
-}
-
-fn with_inputs(out: &mut [u8], mark: u8, word: &[u8], kind: &[u8]) -> usize
-    ensures { result ≤ length out.new }
-{
-    let a = function(out);
-    let b = list(out, a, mark, word, kind);
-    let c = empty(out, b);
-    close(out, 0, c)
-}
-
-fn with_outputs(out: &mut [u8], mark: u8, word: &[u8], kind: &[u8]) -> usize
-    ensures { result ≤ length out.new }
-{
-    let a = function(out);
-    let b = empty(out, a);
-    let c = list(out, b, mark, word, kind);
-    close(out, 0, c)
-}
-
-fn with_tuple(out: &mut [u8], mark: u8, word: &[u8], kind: &[u8]) -> usize
-    ensures { result ≤ length out.new }
-{
-    let a = function(out);
-    let b = grouped(out, a, mark, word, kind);
-    let c = empty(out, b);
-    close(out, 0, c)
-}
-
-fn constructor(out: &mut [u8], mark: u8, word: &[u8], kind: &[u8]) -> usize
-    ensures { result ≤ length out.new }
-{
-    let a = open(out, 0, CONSTRUCTOR);
-    let b = put(out, a, &[NOT_STATED, 0]);
-    let c = list(out, b, mark, word, kind);
-    close(out, 0, c)
-}
-
-// An event `e`.
-fn event(out: &mut [u8], mark: u8, word: &[u8], kind: &[u8]) -> usize
-    ensures { result ≤ length out.new }
-{
-    let a = open(out, 0, EVENT);
-    let b = put(out, a, &[0, 0]);
-    let c = name(out, b, b"e");
-    let d = list(out, c, mark, word, kind);
-    close(out, 0, d)
-}
-
-// An error `e`.
-fn error(out: &mut [u8], mark: u8, word: &[u8], kind: &[u8]) -> usize
-    ensures { result ≤ length out.new }
-{
-    let a = open(out, 0, ERROR);
-    let b = name(out, a, b"e");
-    let c = list(out, b, mark, word, kind);
-    close(out, 0, c)
+    put_record(out, FUNCTION, |out| {
+        put(out, &[NOT_STATED, 0]);
+        put_name(out, b"f");
+        lists(out);
+    });
 }
 
 // The record that has the field at a place.
-fn record(place: Place, out: &mut [u8], mark: u8, word: &[u8], kind: &[u8]) -> usize
-    ensures { result ≤ length out.new }
-{
+fn record_of(place: Place, field: Field) -> Record {
+    let mut record = Record::new();
+    let out = &mut record;
     match place {
-        Place::Inputs => with_inputs(out, mark, word, kind),
-        Place::Outputs => with_outputs(out, mark, word, kind),
-        Place::Constructor => constructor(out, mark, word, kind),
-        Place::Tuple => with_tuple(out, mark, word, kind),
-        Place::Event => event(out, mark, word, kind),
-        Place::Error => error(out, mark, word, kind),
-        Place::Alone => field(out, 0, mark, word, kind),
+        Place::Inputs => put_function(out, |out| {
+            put_list(out, field);
+            put_empty(out);
+        }),
+        Place::Outputs => put_function(out, |out| {
+            put_empty(out);
+            put_list(out, field);
+        }),
+        Place::Tuple => put_function(out, |out| {
+            put_grouped(out, field);
+            put_empty(out);
+        }),
+        Place::Constructor => put_record(out, CONSTRUCTOR, |out| {
+            put(out, &[NOT_STATED, 0]);
+            put_list(out, field);
+        }),
+        Place::Event => put_record(out, EVENT, |out| {
+            put(out, &[0, 0]);
+            put_name(out, b"e");
+            put_list(out, field);
+        }),
+        Place::Error => put_record(out, ERROR, |out| {
+            put_name(out, b"e");
+            put_list(out, field);
+        }),
+        Place::Alone => put_field(out, field),
     }
+    record
 }
 
-// Records.
+// Verdicts.
 
-// The number of a refusal, and 0 of an acceptance.
-fn number(answer: Answer) -> u32 {
+// The number of what the calls refuse a record for, 0 for nothing: the canonical call, and of a field the kind-text call; and the name call.
+fn line_refusal(place: Place, record: &[u8]) -> u32 {
+    let mut line = [0; LONGEST];
+    let answer = match place {
+        Place::Alone => abi::kind_text(record, &mut line),
+        _ => abi::canonical(record, &mut line),
+    };
     match answer {
-        Answer::Accepted { length: _ } => 0,
-        Answer::Refused {
-            refusal,
-            position: _,
-        } => refusal::number(refusal),
+        Ok(_) => 0,
+        Err(refused) => refused.refusal.into(),
     }
 }
 
-// What the calls answer to a record: the canonical call, and of a field the kind-text call.
-fn ask_line(place: Place, record: &[u8]) -> u32 {
-    let mut line = [0; 64];
-    match place {
-        Place::Alone => number(abi::kind_text(record, &mut line)),
-        _ => number(abi::canonical(record, &mut line)),
-    }
-}
-
-// And the name call.
-fn ask_name(record: &[u8]) -> u32 {
+fn name_refusal(record: &[u8]) -> u32 {
     let mut refusal = 99;
     abi::name(record, &mut refusal);
     refusal
 }
 
 // `y` where the record is well formed, `n` where it is not, and `c` for a well-formed constructor, of which there is neither line nor name.
-fn print_verdict<R: Print>(rt: &R, line: u32, name: u32) -> io::Result<()> {
-    if line != name {
-        return tables::print(rt, b"?");
+fn verdict(place: Place, record: &[u8]) -> char {
+    match (line_refusal(place, record), name_refusal(record)) {
+        (0, 0) => 'y',
+        (15, 15) => 'n',
+        (16, 16) => 'c',
+        _ => '?',
     }
-    match line {
-        0 => tables::print(rt, b"y"),
-        15 => tables::print(rt, b"n"),
-        16 => tables::print(rt, b"c"),
-        _ => tables::print(rt, b"?"),
-    }
-}
-
-fn judge<R: Print>(rt: &R, place: Place, record: &[u8]) -> io::Result<()> {
-    print_verdict(rt, ask_line(place, record), ask_name(record))
-}
-
-fn try_record<R: Print>(
-    rt: &R,
-    place: Place,
-    mark: u8,
-    word: &[u8],
-    kind: &[u8],
-) -> io::Result<()> {
-    let mut out = [0; 128];
-    let n = record(place, &mut out, mark, word, kind);
-    judge(rt, place, &out[..n])
 }
 
 // No name and three names, in a word of four letters.
-fn try_names<R: Print>(rt: &R, place: Place, mark: u8, kind: &[u8]) -> io::Result<()> {
-    tables::print(rt, b" ")?;
-    try_record(rt, place, mark, b"", kind)?;
-    try_record(rt, place, mark, b"a", kind)?;
-    try_record(rt, place, mark, b"memory", kind)?;
-    try_record(rt, place, mark, b"calldata", kind)
+fn try_names<P: Print>(rt: &P, place: Place, mark: u8, kind: &[u8]) -> io::Result<()> {
+    print!(rt; " ")?;
+    for name in [b"".as_slice(), b"a", b"memory", b"calldata"] {
+        let letter = verdict(place, &record_of(place, Field { mark, name, kind }));
+        print!(rt; "{letter}")?;
+    }
+    Ok(())
 }
 
 // Each mark, one word behind the other.
-fn row<R: Print>(rt: &R, place: Place, text: &[u8], kind: &[u8]) -> io::Result<()> {
-    print_place(rt, place)?;
-    tables::print(rt, b" ")?;
-    tables::print(rt, text)?;
+fn row<P: Print>(rt: &P, place: Place, text: &str, kind: &[u8]) -> io::Result<()> {
+    print!(rt; "{place} {text}")?;
     for mark in 0..MARKS {
         try_names(rt, place, mark, kind)?;
     }
-    tables::print(rt, b"\n")
+    print!(rt; "\n")
 }
 
-fn rows<R: Print>(rt: &R, place: Place) -> io::Result<()> {
-    row(rt, place, b"bool", b"\x06\0\0\0\x04\0")?;
-    row(rt, place, b"bytes32", b"\x08\0\0\0\x05\0\x20\0")?;
-    row(rt, place, b"string", b"\x06\0\0\0\x08\0")?;
-    row(rt, place, b"()", b"\x06\0\0\0\x09\0")?;
-    row(rt, place, b"bool[]", b"\x06\0\0\0\x04\0\x06\0\0\0\x0B\0")
+fn rows<P: Print>(rt: &P, place: Place) -> io::Result<()> {
+    row(rt, place, "bool", b"\x06\0\0\0\x04\0")?;
+    row(rt, place, "bytes32", b"\x08\0\0\0\x05\0\x20\0")?;
+    row(rt, place, "string", b"\x06\0\0\0\x08\0")?;
+    row(rt, place, "()", b"\x06\0\0\0\x09\0")?;
+    row(rt, place, "bool[]", b"\x06\0\0\0\x04\0\x06\0\0\0\x0B\0")
 }
 
 // Texts.
 
-// Prints a mark and a name if the record is the one with them.
-fn match_name<R: Print>(
-    rt: &R,
-    place: Place,
-    mark: u8,
-    word: &[u8],
-    kind: &[u8],
-    read: &[u8],
-) -> io::Result<()> {
-    let mut out = [0; 128];
-    let n = record(place, &mut out, mark, word, kind);
-    if text::equal(&out[..n], read) {
-        tables::print(rt, b" ")?;
-        print_number(rt, mark as u64)?;
-        tables::print(rt, b" \"")?;
-        tables::print(rt, word)?;
-        tables::print(rt, b"\"")?;
-    }
-    Ok(())
-}
-
-fn match_names<R: Print>(
-    rt: &R,
-    place: Place,
-    mark: u8,
-    kind: &[u8],
-    read: &[u8],
-) -> io::Result<()> {
-    match_name(rt, place, mark, b"", kind, read)?;
-    match_name(rt, place, mark, b"a", kind, read)?;
-    match_name(rt, place, mark, b"s", kind, read)?;
-    match_name(rt, place, mark, b"memory", kind, read)?;
-    match_name(rt, place, mark, b"calldata", kind, read)
-}
-
-// Every mark and name with which the record is the one that was read.
-fn match_record<R: Print>(rt: &R, place: Place, kind: &[u8], read: &[u8]) -> io::Result<()> {
+// Prints every mark and name with which the record is the one that was read.
+fn print_matches<P: Print>(rt: &P, place: Place, kind: &[u8], read: &[u8]) -> io::Result<()> {
     for mark in 0..MARKS {
-        match_names(rt, place, mark, kind, read)?;
-    }
-    Ok(())
-}
-
-fn print_read<R: Print>(
-    rt: &R,
-    place: Place,
-    kind: &[u8],
-    answer: Answer,
-    out: &[u8],
-) -> io::Result<()> {
-    match answer {
-        Answer::Accepted { length } => {
-            if length <= out.len() {
-                match_record(rt, place, kind, &out[..length])?;
+        for name in ["", "a", "s", "memory", "calldata"] {
+            let field = Field {
+                mark,
+                name: name.as_bytes(),
+                kind,
+            };
+            if record_of(place, field).as_slice() == read {
+                print!(rt; " {mark} \"{name}\"")?;
             }
         }
-        Answer::Refused { refusal, position } => {
-            tables::print(rt, b" no ")?;
-            print_number(rt, refusal::number(refusal) as u64)?;
-            tables::print(rt, b" ")?;
-            print_number(rt, position as u64)?;
-        }
     }
-    tables::print(rt, b"\n")
+    Ok(())
 }
 
 // What the general call reads of a text with one field, at a place and of a kind.
-fn read<R: Print>(rt: &R, text: &[u8], place: Place, kind: &[u8]) -> io::Result<()> {
-    let mut out = [0; 128];
-    tables::print(rt, text)?;
-    let answer = declaration::parse_declaration(text, &mut out);
-    print_read(rt, place, kind, answer, &out)
+fn read<P: Print>(rt: &P, text: &[u8], place: Place, kind: &[u8]) -> io::Result<()> {
+    let mut out = [0; LONGEST];
+    tables::print_bytes(rt, text)?;
+    match declaration::read(Call::General, text, &mut out) {
+        Ok(length) => print_matches(rt, place, kind, out.get(..length).unwrap_or(b""))?,
+        Err(refused) => tables::print_refused(rt, refused, b"")?,
+    }
+    print!(rt; "\n")
 }
 
-fn read_string<R: Print>(rt: &R, text: &[u8], place: Place) -> io::Result<()> {
+fn read_string<P: Print>(rt: &P, text: &[u8], place: Place) -> io::Result<()> {
     read(rt, text, place, b"\x06\0\0\0\x08\0")
 }
 
 // Both words in inputs, outputs and a constructor, with a name and without.
-fn words<R: Print>(rt: &R) -> io::Result<()> {
+fn words<P: Print>(rt: &P) -> io::Result<()> {
     read_string(rt, b"function f(string memory)", Place::Inputs)?;
     read_string(rt, b"function f(string calldata a)", Place::Inputs)?;
     read_string(
@@ -428,7 +265,7 @@ fn words<R: Print>(rt: &R) -> io::Result<()> {
 }
 
 // At every sort of kind that admits a data location.
-fn kinds<R: Print>(rt: &R) -> io::Result<()> {
+fn kinds<P: Print>(rt: &P) -> io::Result<()> {
     read(
         rt,
         b"function f(bytes calldata)",
@@ -456,7 +293,7 @@ fn kinds<R: Print>(rt: &R) -> io::Result<()> {
 }
 
 // A place word behind another is a name, and so is one inside a tuple.
-fn names<R: Print>(rt: &R) -> io::Result<()> {
+fn names<P: Print>(rt: &P) -> io::Result<()> {
     read_string(rt, b"function f(string memory memory)", Place::Inputs)?;
     read_string(rt, b"function f(string memory calldata)", Place::Inputs)?;
     read(
@@ -468,7 +305,7 @@ fn names<R: Print>(rt: &R) -> io::Result<()> {
 }
 
 // At other kinds and in other lists it is a name at once.
-fn elsewhere<R: Print>(rt: &R) -> io::Result<()> {
+fn elsewhere<P: Print>(rt: &P) -> io::Result<()> {
     read(
         rt,
         b"function f(uint memory)",
@@ -486,7 +323,7 @@ fn elsewhere<R: Print>(rt: &R) -> io::Result<()> {
 }
 
 // What is no name behind it is refused as before.
-fn refused<R: Print>(rt: &R) -> io::Result<()> {
+fn refused<P: Print>(rt: &P) -> io::Result<()> {
     read_string(rt, b"function f(address memory a)", Place::Inputs)?;
     read_string(rt, b"function f(string storage memory)", Place::Inputs)?;
     read_string(rt, b"function f(string memory 1)", Place::Inputs)
@@ -498,11 +335,16 @@ fn main(rt: HostRuntime) -> io::Result<()> {
     names(&rt)?;
     elsewhere(&rt)?;
     refused(&rt)?;
-    rows(&rt, Place::Inputs)?;
-    rows(&rt, Place::Outputs)?;
-    rows(&rt, Place::Constructor)?;
-    rows(&rt, Place::Tuple)?;
-    rows(&rt, Place::Event)?;
-    rows(&rt, Place::Error)?;
-    rows(&rt, Place::Alone)
+    for place in [
+        Place::Inputs,
+        Place::Outputs,
+        Place::Constructor,
+        Place::Tuple,
+        Place::Event,
+        Place::Error,
+        Place::Alone,
+    ] {
+        rows(&rt, place)?;
+    }
+    Ok(())
 }

@@ -1,5 +1,3 @@
 pub mod Writing
-pub mod Escapes
-pub mod Contexts
 pub mod Wordings
 pub mod Calls

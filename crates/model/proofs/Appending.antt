@@ -3,7 +3,7 @@
 use mathlib.Core.Path.{◌≡◌, refl, ◌∙◌, ap}
 use mathlib.Core.Bool.{Bool, true, false, and-eq-true_iff}
 use mathlib.Core.List.{List, [], ◌∷◌, ◌++◌}
-use mathlib.Core.Option.{Option, none, some}
+use Rattle.std.specs.Prelude.{Option, None, Some}
 use Prim.Native.Nat.{ℕ, suc}
 use native.Mathlib.Omega.{arith}
 use lib.Dec.{leb, ltb}
@@ -36,7 +36,7 @@ pub more-well-formed : (ds : List Declaration) (d : Declaration) → well_formed
 unfolding well_formed_sheet is_sheet
 more-well-formed ds d g w l h =
     let (g₁, g₂) = (and-eq-true_iff (all well_formed ds) _).0 g in
-    let distinct : first_repeat [] (ds ++ (d ∷ [])) ≡ none = distinct_more ds d (absent-is _ (right (leb (length ds) most_declarations) g₂)) h in
+    let distinct : first_repeat [] (ds ++ (d ∷ [])) ≡ None = distinct_more ds d (absent-is _ (right (leb (length ds) most_declarations) g₂)) h in
     let well : all well_formed (ds ++ (d ∷ [])) ≡ true = rw all_append (both {a = all well_formed ds} g₁ (both {a = well_formed d} w refl)) in
     let few : leb (length (ds ++ (d ∷ []))) most_declarations ≡ true
     = le-leb (length (ds ++ (d ∷ []))) most_declarations (omega (arith, length-append ds (d ∷ []), ltb-true (length ds) most_declarations l)) in
@@ -45,17 +45,17 @@ more-well-formed ds d g w l h =
 -- "the sheet read is the old one with that declaration last"
 pub record Appended (b t u : List ℕ) : Type 0 where
   pub old : List Declaration
-  pub sheet : decode_sheet b ≡ some old
+  pub sheet : decode_sheet b ≡ Some old
   pub new : Declaration
   pub place : ℕ
   pub reads : parse call.General t ≡ got new place
-  pub becomes : decode_sheet u ≡ some (old ++ (new ∷ []))
+  pub becomes : decode_sheet u ≡ Some (old ++ (new ∷ []))
 
 pub appended : (b t u : List ℕ) → Bytes b → (quote_output b t).output ≡ writes u → Appended b t u
 unfolding quote_output append_by
 appended b t u bytes e = go (decode_sheet b) refl e
   where
-    more : (ds : List Declaration) → decode_sheet b ≡ some ds → (d : Declaration) (p : ℕ) → parse call.General t ≡ got d p → (x y : Bool) → ltb (length ds) most_declarations ≡ x → has ds d ≡ y
+    more : (ds : List Declaration) → decode_sheet b ≡ Some ds → (d : Declaration) (p : ℕ) → parse call.General t ≡ got d p → (x y : Bool) → ltb (length ds) most_declarations ≡ x → has ds d ≡ y
         → (elim x as (λ _. OnLine) [ true ↦ elim y as (λ _. OnLine) [ true ↦ refuses_on Repeated (suc (length ds)) 0 | false ↦ writes_sheet (ds ++ (d ∷ [])) ] | false ↦ refuses_on TooManyDeclarations (suc (length ds)) 0 ]).output ≡ writes u
         → Appended b t u
     more ds f d p q false y i j g = absurd (refuses-not g)
@@ -65,11 +65,11 @@ appended b t u bytes e = go (decode_sheet b) refl e
         let z : u ≡ encode_sheet (ds ++ (d ∷ [])) = cc in
         record { old = ds; sheet = f; new = d; place = p; reads = q; becomes = ap decode_sheet z ∙ sheet-back (ds ++ (d ∷ [])) (more-well-formed ds d w (read-well-formed call.General t d p q) i j) }
 
-    read : (ds : List Declaration) → decode_sheet b ≡ some ds → (a : Ans Declaration) → parse call.General t ≡ a → (append_by ds a).output ≡ writes u → Appended b t u
+    read : (ds : List Declaration) → decode_sheet b ≡ Some ds → (a : Ans Declaration) → parse call.General t ≡ a → (append_by ds a).output ≡ writes u → Appended b t u
     read ds f (got d p) q g = more ds f d p q (ltb (length ds) most_declarations) (has ds d) refl refl g
     read ds f (bad w p) q g = absurd (refuses-not g)
     read ds f (deep p) q g = absurd (refuses-not g)
 
     go : (o : Option (List Declaration)) → decode_sheet b ≡ o → (of_sheet o (λ ds. append_by ds (parse call.General t))).output ≡ writes u → Appended b t u
-    go none f g = absurd (refuses-not g)
-    go (some ds) f g = read ds f (parse call.General t) refl g
+    go None f g = absurd (refuses-not g)
+    go (Some ds) f g = read ds f (parse call.General t) refl g

@@ -4,7 +4,7 @@ use mathlib.Core.Path.{◌≡◌, refl, sym, ◌∙◌, ap, subst}
 use mathlib.Core.Logic.{◌↔◌}
 use mathlib.Core.Bool.{Bool, true, false, ◌&&◌, ◌||◌, not}
 use mathlib.Core.List.{List, [], ◌∷◌, ◌++◌, append_assoc, append-nil}
-use mathlib.Core.Option.{Option, none, some}
+use Rattle.std.specs.Prelude.{Option, None, Some}
 use Prim.Native.Nat.{ℕ, zero, suc, ◌+◌, ◌≤◌, ◌<◌}
 use native.Mathlib.Omega.{arith}
 use native.Mathlib.Numerals.{add-one}
@@ -165,9 +165,9 @@ module _ (s : List ℕ) (clean : (n : ℕ) → Clean s n) where
   suffix-of at = go (look lbracket s at) (look-there lbracket at (lit< tt))
     where
       shut : (b d : ℕ) → Stood at b (lbracket ∷ []) → (x : Option Suffix) → inside (part s b d) ≡ x → (r : Found (Unit {0})) → FoundHere rbracket (b + d) r → FoundSuffix at (closed x r)
-      shut b d q none e r h = tt
-      shut b d q (some o) e missing h = tt
-      shut b d q (some o) e (found u n) h =
+      shut b d q None e r h = tt
+      shut b d q (Some o) e missing h = tt
+      shut b d q (Some o) e (found u n) h =
           let m = part s b d in (
             shut-behind rbracket (b + d) n refl h.0 h.1,
             subst (Stood at n) (suffix-exact m o e) (stood-then at b n (lbracket ∷ []) (m ++ (rbracket ∷ [])) q (stood-then b (b + d) n m (rbracket ∷ []) (part-stood b d) h.1)),
@@ -319,8 +319,8 @@ tuple-spelled s = go (crowded deepest 0 s)
     whole (deep p) q = tt
 
     go : (o : Option ℕ) → Gives (Spells s) (tuple_by s o)
-    go (some p) = tt
-    go none = tested (Gives (Spells s)) (is_bare false s)
+    go (Some p) = tt
+    go None = tested (Gives (Spells s)) (is_bare false s)
         (λ e. whole (field_by Plain (tuple_kind deepest) s 0) (field-of s (all_clean s false e) (tuple_kind deepest) (tuple-of s (all_clean s false e) deepest) 0)) (λ _. tt)
 
 read-spelled : (s : List ℕ) → Gives (Spells s) (read_kind s)

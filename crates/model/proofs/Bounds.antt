@@ -3,7 +3,7 @@
 use mathlib.Core.Path.{◌≡◌, refl, ◌∙◌, ap, subst}
 use mathlib.Core.Bool.{Bool, true, false, ◌&&◌}
 use mathlib.Core.List.{List, [], ◌∷◌, ◌++◌}
-use mathlib.Core.Option.{Option, none, some}
+use Rattle.std.specs.Prelude.{Option, None, Some}
 use Prim.Native.Nat.{ℕ, zero, suc, ◌+◌, ◌*◌, ◌≤◌, ◌<◌}
 use native.Mathlib.Omega.{arith}
 use lib.Dec.{leb, eqb}
@@ -54,8 +54,8 @@ field-size m nm b ss = simp (record_size, length-append) (omega arith)
 -- What holds of a thing, if there is one.
 
 abbrev pub In : {A : Type 0} → (A → Type 0) → Option A → Type 0
-In P none = Unit {0}
-In P (some a) = P a
+In P None = Unit {0}
+In P (Some a) = P a
 
 abbrev pub Right : {A : Type 0} → (A → Type 0) → Result A → Type 0
 Right P (ok a) = P a
@@ -90,8 +90,8 @@ pub inside_of : (m : List ℕ) → In (Inside m) (inside m)
 inside_of m = go (inside m) refl
   where
     go : (x : Option Suffix) → inside m ≡ x → In (Inside m) x
-    go none e = tt
-    go (some o) e =
+    go None e = tt
+    go (Some o) e =
         let (w, h) = (inside-exactly m o).0 e in
         record { valid = h; paid = rw w (inner-paid o) }
 
@@ -118,8 +118,8 @@ strip-of d (c ∷ t) = go t (strip d t) (strip-of d t)
   where
     go : (u : List ℕ) (r : Option (List ℕ)) → In (λ m. suc (length m) ≡ length u) r → In (λ m. suc (length m) ≡ suc (length u)) (strip_step d c u r)
     go [] r h = tested (In (λ m. suc (length m) ≡ 1)) (eqb d c) (λ e. refl) (λ e. tt)
-    go (b ∷ u) none h = tt
-    go (b ∷ u) (some m) h = omega arith
+    go (b ∷ u) None h = tt
+    go (b ∷ u) (Some m) h = omega arith
 
 -- t is a and the suffix o behind it
 record Peels (t a : List ℕ) (o : Suffix) : Type 0 where
@@ -135,12 +135,12 @@ unfolding peel
 peel-of t = go (cut_last lbracket t) (cut_of lbracket t)
   where
     by : (a b m : List ℕ) → suc (length a + length b) ≡ length t → suc (length m) ≡ length b → (o : Option Suffix) → In (Inside m) o → PeelsTo t (peel_by a o)
-    by a b m h k none i = tt
-    by a b m h k (some o) i = record { valid = i.valid; paid = omega arith }
+    by a b m h k None i = tt
+    by a b m h k (Some o) i = record { valid = i.valid; paid = omega arith }
 
     shut-of : (a b : List ℕ) → suc (length a + length b) ≡ length t → (r : Option (List ℕ)) → In (λ m. suc (length m) ≡ length b) r → PeelsTo t (peel_by a (shut r))
-    shut-of a b h none k = tt
-    shut-of a b h (some m) k = by a b m h k (inside m) (inside_of m)
+    shut-of a b h None k = tt
+    shut-of a b h (Some m) k = by a b m h k (inside m) (inside_of m)
 
     go : (r : Cut) → Cuts t r → PeelsTo t (peel_at r)
     go uncut h = tt
@@ -166,8 +166,8 @@ starts-of : (w t : List ℕ) → starts w t ≡ true → length w ≤ length t
 starts-of w t e = omega (arith, ap length ((same_equal w (take (length w) t)).0 e), length-take (length w) t)
 
 width-of : (t : List ℕ) (f : BitWidth → Elementary) → ((n : ℕ) → is_elementary (f (bits n)) ≡ is_bit_width n) → leb 3 (length t) ≡ true → (o : Option ℕ) → Right (Spelt t) (width f o)
-width-of t f h k none = tt
-width-of t f h k (some n) = tested (Right (Spelt t)) (is_bit_width n) (λ e. both (h n ∙ e) k) (λ e. tt)
+width-of t f h k None = tt
+width-of t f h k (Some n) = tested (Right (Spelt t)) (is_bit_width n) (λ e. both (h n ∙ e) k) (λ e. tt)
 
 number_of : (t : List ℕ) → Right (Spelt t) (with_number t)
 unfolding with_number is_elementary
@@ -177,8 +177,8 @@ number_of t =
     (λ _. tested (Right (Spelt t)) (starts (ascii "bytes") t) (λ e. length-of (le-leb 3 (length t) (omega (arith, starts-of (ascii "bytes") t e))) (number 32 (drop 5 t))) (λ _. tt)))
   where
     length-of : leb 3 (length t) ≡ true → (o : Option ℕ) → Right (Spelt t) (byte_length o)
-    length-of k none = tt
-    length-of k (some n) = tested (Right (Spelt t)) (is_byte_length n) (λ e. both e k) (λ e. tt)
+    length-of k None = tt
+    length-of k (Some n) = tested (Right (Spelt t)) (is_byte_length n) (λ e. both e k) (λ e. tt)
 
 -- An elementary kind and its suffixes.
 
@@ -206,9 +206,9 @@ from_str_in_lem zero t = tt
 from_str_in_lem (suc k) t = go (λ a. from_str_in k a) (λ a. from_str_in_lem k a) (lookup kind_words t) (peel t) (lookup-of Spelt kind_words t words-spelt) (peel-of t)
   where
     go : (inner : List ℕ → Result Spelled) → ((a : List ℕ) → Right (Spells a) (inner a)) → (e : Option Elementary) (p : Peeled) → In (Spelt t) e → PeelsTo t p → Right (Spells t) (from_str_by inner t e p)
-    go inner i (some e) p h l = spells_bare t e h
-    go inner i none (peeled a o) h l = right-on (Spells a) (Spells t) (add_suffix o) (inner a) (i a) (λ j. spells_array t a o j l)
-    go inner i none bare h l = right-on (Spelt t) (Spells t) unsuffixed (with_number t) (number_of t) (spells_bare t)
+    go inner i (Some e) p h l = spells_bare t e h
+    go inner i None (peeled a o) h l = right-on (Spells a) (Spells t) (add_suffix o) (inner a) (i a) (λ j. spells_array t a o j l)
+    go inner i None bare h l = right-on (Spelt t) (Spells t) unsuffixed (with_number t) (number_of t) (spells_bare t)
 
 pub spelled : (t : List ℕ) → Right (Spells t) (from_str t)
 unfolding from_str

@@ -4,7 +4,7 @@ use mathlib.Core.Path.{◌≡◌, refl, ap}
 use mathlib.Core.Logic.{◌↔◌}
 use mathlib.Core.Bool.{true}
 use mathlib.Core.List.{List}
-use mathlib.Core.Option.{some}
+use Rattle.std.specs.Prelude.{Some}
 use Prim.Native.Nat.{ℕ, suc, ◌≤◌}
 use lib.ListN.{length}
 use Rattle.kinds.specs.Kind.{Prototype}
@@ -39,7 +39,7 @@ pub joined_texts : {ss ts : List (List ℕ)} {ps qs : List Prototype} → AllAcc
 joined_texts {ps = ps} {qs = qs} a b = joined_agree ps qs (accepted-named a) (accepted-named b)
 
 -- the outputs of a record that says d
-name-of : (d : Declaration) (p : Prototype) → name_kinds d ≡ some p → name_of d ≡ some p.name
+name-of : (d : Declaration) (p : Prototype) → name_kinds d ≡ Some p → name_of d ≡ Some p.name
 unfolding name_kinds name_of
 name-of (Declaration.function m nm ins outs) p e = cc
 name-of (Declaration.constructor m ins) p e = cc
@@ -48,7 +48,7 @@ name-of (Declaration.error nm ins) p e = cc
 
 -- T4: "take any well-formed function, event or error record. Its keyword, one space and its canonical text, if together at most 4,096 bytes, are
 -- accepted by the general call, given room for the record that it writes. That record has the same name, kinds and canonical text."
-pub line-back : (b : List ℕ) (d : Declaration) (p : Prototype) → Bytes b → decode b ≡ some d → name_kinds d ≡ some p
+pub line-back : (b : List ℕ) (d : Declaration) (p : Prototype) → Bytes b → decode b ≡ Some d → name_kinds d ≡ Some p
     → length (line (keyword_in d) p) ≤ longest_text
     → (c : List ℕ) × (read_output call.General (line (keyword_in d) p) ≡ writes c) × SameLine (keyword_in d) p c
 unfolding read_output written canonical_output canonical_text name_output
@@ -56,7 +56,7 @@ line-back b d p y e n h =
     let w : well_formed d ≡ true = ((decode-exactly b d y).0 e).0 in
     let (x, at, r, s, k) = line_reads d p w n h in
     let v : well_formed x ≡ true = read-well-formed call.General (line (keyword_in d) p) x at r in
-    let q : decode (encode 4 x) ≡ some x = (decode-exactly (encode 4 x) x (encode-bytes x v)).1 (v, refl) in (
+    let q : decode (encode 4 x) ≡ Some x = (decode-exactly (encode 4 x) x (encode-bytes x v)).1 (v, refl) in (
       encode 4 x,
       rw r,
       record {

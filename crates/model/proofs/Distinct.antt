@@ -4,7 +4,8 @@ use mathlib.Core.Path.{◌≡◌, refl, sym, ◌∙◌, ap}
 use mathlib.Core.Logic.{◌↔◌}
 use mathlib.Core.Bool.{Bool, true, false, ◌||◌, false≢true, or_assoc, or-false}
 use mathlib.Core.List.{List, [], ◌∷◌, ◌++◌, append-nil, append_assoc}
-use mathlib.Core.Option.{Option, none, some, none-ne-some}
+use Rattle.std.specs.Prelude.{Option, None, Some}
+use Rattle.std.proofs.lemmas.Option.{none-some}
 use Prim.Native.Nat.{ℕ, suc}
 use Rattle.model.specs.Tree.{Declaration}
 use Rattle.model.specs.Record.{on_option, is_absent}
@@ -21,22 +22,22 @@ unfolding has
 has_last xs c d = has_append xs (c ∷ []) d ∙ ap (λ b. has xs d || b) (or-false (repeats c d))
 
 -- nothing is repeated: of the first, and of those behind it
-none_of : (o : Option ℕ) → on_option suc o ≡ none → o ≡ none
-none_of none r = refl
-none_of (some i) r = absurd (none-ne-some (suc i) (sym r))
+none_of : (o : Option ℕ) → on_option suc o ≡ None → o ≡ None
+none_of None r = refl
+none_of (Some i) r = absurd (none-some (suc i) (sym r))
 
 module _ (es : List Declaration) (d : Declaration) (ds : List Declaration) where
-  pub first-distinct : (first_repeat es (d ∷ ds) ≡ none) ↔ ((has es d ≡ false) × (first_repeat (es ++ (d ∷ [])) ds ≡ none))
+  pub first-distinct : (first_repeat es (d ∷ ds) ≡ None) ↔ ((has es d ≡ false) × (first_repeat (es ++ (d ∷ [])) ds ≡ None))
   unfolding first_repeat
   first-distinct = (λ h. go (has es d) refl h, λ p. rw (first_repeat, p.0) (ap (on_option suc) p.1))
     where
-      go : (b : Bool) → has es d ≡ b → ◌≡◌ {A = Option ℕ} (elim b as (λ _. Option ℕ) [ true ↦ some 0 | false ↦ on_option suc (first_repeat (es ++ (d ∷ [])) ds) ]) none
-          → (has es d ≡ false) × (first_repeat (es ++ (d ∷ [])) ds ≡ none)
-      go true p q = absurd (none-ne-some 0 (sym q))
+      go : (b : Bool) → has es d ≡ b → ◌≡◌ {A = Option ℕ} (elim b as (λ _. Option ℕ) [ true ↦ Some 0 | false ↦ on_option suc (first_repeat (es ++ (d ∷ [])) ds) ]) None
+          → (has es d ≡ false) × (first_repeat (es ++ (d ∷ [])) ds ≡ None)
+      go true p q = absurd (none-some 0 (sym q))
       go false p q = (p, none_of _ q)
 
 -- and of lists one behind the other
-pub distinct_append : (es xs ys : List Declaration) → (first_repeat es (xs ++ ys) ≡ none) ↔ ((first_repeat es xs ≡ none) × (first_repeat (es ++ xs) ys ≡ none))
+pub distinct_append : (es xs ys : List Declaration) → (first_repeat es (xs ++ ys) ≡ None) ↔ ((first_repeat es xs ≡ None) × (first_repeat (es ++ xs) ys ≡ None))
 unfolding first_repeat
 distinct_append es [] ys = (λ h. (refl, rw append-nil h), λ p. rw append-nil at p.1)
 distinct_append es (x ∷ xs) ys = (
@@ -50,10 +51,10 @@ distinct_append es (x ∷ xs) ys = (
 )
 
 -- one more behind them
-pub distinct_more : (ds : List Declaration) (d : Declaration) → first_repeat [] ds ≡ none → has ds d ≡ false → first_repeat [] (ds ++ (d ∷ [])) ≡ none
+pub distinct_more : (ds : List Declaration) (d : Declaration) → first_repeat [] ds ≡ None → has ds d ≡ false → first_repeat [] (ds ++ (d ∷ [])) ≡ None
 unfolding first_repeat
 distinct_more ds d h k = (distinct_append [] ds (d ∷ [])).1 (h, (first-distinct ds d []).1 (k, refl))
 
-pub absent-is : (o : Option ℕ) → is_absent o ≡ true → o ≡ none
-absent-is none h = refl
-absent-is (some i) h = absurd (false≢true h)
+pub absent-is : (o : Option ℕ) → is_absent o ≡ true → o ≡ None
+absent-is None h = refl
+absent-is (Some i) h = absurd (false≢true h)

@@ -3,7 +3,7 @@
 use mathlib.Core.Path.{◌≡◌, refl, sym, ◌∙◌, ap, subst}
 use mathlib.Core.Bool.{true}
 use mathlib.Core.List.{List, [], ◌∷◌, ◌++◌}
-use mathlib.Core.Option.{Option, none, some}
+use Rattle.std.specs.Prelude.{Option, None, Some}
 use Prim.Native.Nat.{ℕ, zero, suc}
 use lib.ListN.{length, take, drop, take-append-drop}
 use Rattle.kinds.specs.Bytes.{ascii, lbracket, rbracket}
@@ -32,16 +32,16 @@ module _ (t : List ℕ) where
   numbered w m f x e = go (number m (drop (length w) t)) refl
     where
       go : (o : Option ℕ) → number m (drop (length w) t) ≡ o → In (λ n. SpellsElementary (f n) t) o
-      go none q = tt
-      go (some n) q = subst (SpellsElementary (f n)) (x n ∙ ap (λ u. w ++ u) (sym (number-exact m (drop (length w) t) n q)) ∙ sym (parted w t e)) (itself (f n))
+      go None q = tt
+      go (Some n) q = subst (SpellsElementary (f n)) (x n ∙ ap (λ u. w ++ u) (sym (number-exact m (drop (length w) t) n q)) ∙ sym (parted w t e)) (itself (f n))
 
   width-spelled : (f : BitWidth → Elementary) (o : Option ℕ) → In (λ n. SpellsElementary (f (bits n)) t) o → Spelt (width f o)
-  width-spelled f none h = tt
-  width-spelled f (some n) h = tested Spelt (is_bit_width n) (λ _. h) (λ _. tt)
+  width-spelled f None h = tt
+  width-spelled f (Some n) h = tested Spelt (is_bit_width n) (λ _. h) (λ _. tt)
 
   length-spelled : (o : Option ℕ) → In (λ n. SpellsElementary (fixed_bytes (octets n)) t) o → Spelt (byte_length o)
-  length-spelled none h = tt
-  length-spelled (some n) h = tested Spelt (is_byte_length n) (λ _. h) (λ _. tt)
+  length-spelled None h = tt
+  length-spelled (Some n) h = tested Spelt (is_byte_length n) (λ _. h) (λ _. tt)
 
   with_number_lem : Spelt (with_number t)
   unfolding with_number elementary_text
@@ -62,15 +62,15 @@ module _ (t : List ℕ) where
   spelt = go (lookup kind_words t) words
     where
       go : (o : Option Elementary) → In (λ e. SpellsElementary e t) o → Spelt (or_number t o)
-      go (some e) h = h
-      go none h = with_number_lem
+      go (Some e) h = h
+      go None h = with_number_lem
 
 -- every text that is read as an elementary kind is one of its spellings
 pub elementary-spelled : (t : List ℕ) (e : Elementary) → elementary_of t ≡ ok e → SpellsElementary e t
 elementary-spelled t e q = subst (Right (λ x. SpellsElementary x t)) q (spelt t)
 
 -- what is read as a suffix is its text
-pub suffix-exact : (m : List ℕ) (o : Suffix) → inside m ≡ some o → lbracket ∷ (m ++ (rbracket ∷ [])) ≡ suffix_text o
+pub suffix-exact : (m : List ℕ) (o : Suffix) → inside m ≡ Some o → lbracket ∷ (m ++ (rbracket ∷ [])) ≡ suffix_text o
 suffix-exact m o e = ap (λ u. lbracket ∷ (u ++ (rbracket ∷ []))) ((inside-exactly m o).0 e).0 ∙ sym (suffix-inner o)
 
 -- every run that is read is a spelling of its kind, suffixes included
@@ -91,11 +91,11 @@ run_in (suc k) t = go (lookup kind_words t) (words t) (peel t) refl (λ a. run_i
     suffixed a o e (err w) h = tt
 
     go : (l : Option Elementary) → In (λ e. SpellsElementary e t) l → (p : Peeled) → peel t ≡ p → ((a : List ℕ) → Right (SpellsRun a) (from_str_in k a)) → Right (SpellsRun t) (from_str_by (λ a. from_str_in k a) t l p)
-    go (some e) h p q ih = h
-    go none h (peeled a o) q ih =
+    go (Some e) h p q ih = h
+    go None h (peeled a o) q ih =
         let (m, f, i) = peel-split t a o q in
         suffixed a o (f ∙ ap (λ u. a ++ u) (suffix-exact m o i)) (from_str_in k a) (ih a)
-    go none h bare q ih = alone (with_number t) (with_number_lem t)
+    go None h bare q ih = alone (with_number t) (with_number_lem t)
 
 pub run-spelled : (t : List ℕ) (s : Spelled) → from_str t ≡ ok s → SpellsKind (arrays (Kind.elementary s.kind) s.suffixes) t
 unfolding from_str

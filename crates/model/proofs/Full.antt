@@ -3,7 +3,7 @@
 use mathlib.Core.Path.{◌≡◌, refl, sym, ◌∙◌, ap}
 use mathlib.Core.Bool.{true, false, false≢true}
 use mathlib.Core.List.{List, [], ◌∷◌, ◌++◌, append-nil}
-use mathlib.Core.Option.{none, some}
+use Rattle.std.specs.Prelude.{None, Some}
 use Prim.Native.Nat.{ℕ, zero, suc, ◌+◌, ◌≤◌}
 use native.Mathlib.Omega.{arith}
 use lib.Dec.{leb, eqb}
@@ -58,10 +58,10 @@ module _ (k : Keyword) (nm : List ℕ) (w : is_word nm ≡ true) (sort : Sort) (
 
 -- a word of a table behind a space, and one that is not of the table
 module _ {A : Type 0} (es : List (Entry A)) (d : A) (w r : List ℕ) (h : is_word w ≡ true) (k : one is_word_byte r ≡ 0) where
-  table-word : (a : A) → lookup es w ≡ some a → Reads (option es d) (space ∷ w) r a
+  table-word : (a : A) → lookup es w ≡ Some a → Reads (option es d) (space ∷ w) r a
   table-word a l = option-there es d a (space ∷ w) r w (word_spaced w r h k) l
 
-  other_word : lookup es w ≡ none → Reads (option es d) [] ((space ∷ w) ++ r) d
+  other_word : lookup es w ≡ None → Reads (option es d) [] ((space ∷ w) ++ r) d
   unfolding option keyword_of
   other_word l s at e = rw (option, keyword_of, (word_spaced w r h k s at e).0, l) (ap (got d) (omega arith))
 
@@ -91,7 +91,7 @@ module _ (outs : Fields) where
   ends-word no_field = refl
   ends-word (more_fields f fs) = refl
 
-  unsaid : {A : Type 0} (es : List (Entry A)) (d : A) (os : Fields) → lookup es [] ≡ none → lookup es (ascii "returns") ≡ none → Reads (option es d) [] (returns_text os ++ []) d
+  unsaid : {A : Type 0} (es : List (Entry A)) (d : A) (os : Fields) → lookup es [] ≡ None → lookup es (ascii "returns") ≡ None → Reads (option es d) [] (returns_text os ++ []) d
   unsaid es d no_field h k = reads-option es d h
   unsaid es d (more_fields f fs) h k = other_word es d (ascii "returns") _ refl refl k
 
@@ -106,7 +106,7 @@ module _ (outs : Fields) where
       (reads_on (option mutabilities not_stated) _ [] behind not_stated not_stated (unsaid mutabilities not_stated outs refl refl)
       (reads_on visibility _ [] behind false not_stated none_seen (reads-return not_stated behind)))
 
-  stated : (m : ℕ) (w : List ℕ) → is_word w ≡ true → lookup mutabilities w ≡ some m → lookup visibilities w ≡ none → Reads modifiers (space ∷ w) behind m
+  stated : (m : ℕ) (w : List ℕ) → is_word w ≡ true → lookup mutabilities w ≡ Some m → lookup visibilities w ≡ None → Reads modifiers (space ∷ w) behind m
   unfolding modifiers visibility
   stated m w h i j =
       reads_then visibility _ [] (space ∷ w) behind false m (other_word visibilities false w behind h (ends-word outs) j)
@@ -225,25 +225,25 @@ full-ascii (Declaration.error nm ins) h = rw (append-nil (written_list ins)) at 
 
 -- The calls.
 
-full-opens : (d : Declaration) → wanted call.General (full_text d) ≡ some (keyword_in d)
+full-opens : (d : Declaration) → wanted call.General (full_text d) ≡ Some (keyword_in d)
 unfolding wanted full_text keyword_text keyword_in
 full-opens (Declaration.function m nm ins outs) = refl
 full-opens (Declaration.constructor m ins) = refl
 full-opens (Declaration.event a nm ins) = refl
 full-opens (Declaration.error nm ins) = refl
 
-named-wants : (k : Keyword) (s : List ℕ) → wanted (call_of k) s ≡ some k
+named-wants : (k : Keyword) (s : List ℕ) → wanted (call_of k) s ≡ Some k
 unfolding wanted
 named-wants key.Function s = refl
 named-wants key.Constructor s = refl
 named-wants key.Event s = refl
 named-wants key.Error s = refl
 
-wants : {k : Keyword} {c : Call} → Takes k c → (s : List ℕ) → wanted call.General s ≡ some k → wanted c s ≡ some k
+wants : {k : Keyword} {c : Call} → Takes k c → (s : List ℕ) → wanted call.General s ≡ Some k → wanted c s ≡ Some k
 wants (general k) s h = h
 wants (named k) s h = named-wants k s
 
-full_parsed : (c : Call) (d : Declaration) → wanted c (full_text d) ≡ some (keyword_in d) → is_declaration d ≡ true → length (full_text d) ≤ longest_text → parse c (full_text d) ≡ got d (0 + length (full_text d))
+full_parsed : (c : Call) (d : Declaration) → wanted c (full_text d) ≡ Some (keyword_in d) → is_declaration d ≡ true → length (full_text d) ≤ longest_text → parse c (full_text d) ≡ got d (0 + length (full_text d))
 unfolding parse read_declaration exec on_ans
 full_parsed c d w h l =
     let s : List ℕ = full_text d in
@@ -251,7 +251,7 @@ full_parsed c d w h l =
     ∙ rw (read_declaration, w) (reads_on (parser_of (keyword_in d)) (λ x u at. on_ans (λ _. x) (end u at)) s [] d d (full-reads d h) (λ u at q. rw (reads_end u at q)) s 0 (sym (append-nil s)))
 
 -- "Read again, a line of at most 4,096 bytes gives the identical record.": by the general call, and by the call named for its keyword
-pub full_back : (b : List ℕ) (d : Declaration) (c : Call) → Takes (keyword_in d) c → Bytes b → decode b ≡ some d → length (full_text d) ≤ longest_text → read_output c (full_text d) ≡ writes b
+pub full_back : (b : List ℕ) (d : Declaration) (c : Call) → Takes (keyword_in d) c → Bytes b → decode b ≡ Some d → length (full_text d) ≤ longest_text → read_output c (full_text d) ≡ writes b
 unfolding read_output written well_formed
 full_back b d c t y e l =
     let (w, same) = (decode-exactly b d y).0 e in

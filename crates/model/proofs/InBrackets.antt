@@ -4,7 +4,7 @@ use mathlib.Core.Path.{◌≡◌, refl, subst}
 use mathlib.Core.Logic.{◌↔◌}
 use mathlib.Core.Bool.{true}
 use mathlib.Core.List.{List, [], ◌∷◌, ◌++◌}
-use mathlib.Core.Option.{Option, none, some}
+use Rattle.std.specs.Prelude.{Option, None, Some}
 use Prim.Native.Nat.{ℕ}
 use native.Mathlib.Omega.{arith}
 use borrow.Author.Tests.{leb-true, le-leb}
@@ -26,11 +26,11 @@ suffix-inner (sized n) = refl
 suffix-inner unsized = refl
 
 -- nothing else is read there
-sized-is : (r : Option ℕ) (o : Suffix) → sized_by r ≡ some o → (n : ℕ) × (r ≡ some n) × (sized n ≡ o)
-sized-is none o e = let z : ◌≡◌ {A = ℕ} 0 1 = cc in absurd (omega arith)
-sized-is (some n) o e = (n, refl, cc)
+sized-is : (r : Option ℕ) (o : Suffix) → sized_by r ≡ Some o → (n : ℕ) × (r ≡ Some n) × (sized n ≡ o)
+sized-is None o e = let z : ◌≡◌ {A = ℕ} 0 1 = cc in absurd (omega arith)
+sized-is (Some n) o e = (n, refl, cc)
 
-inside-only : (m : List ℕ) (o : Suffix) → inside m ≡ some o → (m ≡ inner o) × (is_suffix o ≡ true)
+inside-only : (m : List ℕ) (o : Suffix) → inside m ≡ Some o → (m ≡ inner o) × (is_suffix o ≡ true)
 unfolding inside
 inside-only [] o e =
     let g : unsized ≡ o = cc in
@@ -40,12 +40,12 @@ inside-only (c ∷ s) o e =
     subst (λ x. (c ∷ s ≡ inner x) × (is_suffix x ≡ true)) g (number-exact longest (c ∷ s) n q, le-leb n longest (number_bound longest (c ∷ s) n q))
 
 -- and that is
-pub inside-inner : (o : Suffix) → is_suffix o ≡ true → inside (inner o) ≡ some o
+pub inside-inner : (o : Suffix) → is_suffix o ≡ true → inside (inner o) ≡ Some o
 unfolding inside
 inside-inner unsized h = refl
 inside-inner (sized n) h =
     let (c, s, e) = decimal_cons n in
     rw (e, ← e, (written_read longest n).1 (leb-true n longest h))
 
-pub inside-exactly : (m : List ℕ) (o : Suffix) → (inside m ≡ some o) ↔ ((m ≡ inner o) × (is_suffix o ≡ true))
+pub inside-exactly : (m : List ℕ) (o : Suffix) → (inside m ≡ Some o) ↔ ((m ≡ inner o) × (is_suffix o ≡ true))
 inside-exactly m o = (inside-only m o, λ (e, h). rw e (inside-inner o h))

@@ -3,7 +3,7 @@
 use mathlib.Core.Path.{◌≡◌, refl, sym, ◌∙◌, ap}
 use mathlib.Core.Bool.{Bool, true, false, not, false≢true}
 use mathlib.Core.List.{List, [], ◌∷◌, ◌++◌, append_assoc, append-nil}
-use mathlib.Core.Option.{some}
+use Rattle.std.specs.Prelude.{Some}
 use Prim.Native.Nat.{ℕ, ◌≤◌}
 use native.Mathlib.Omega.{arith}
 use lib.Dec.{eqb}
@@ -71,7 +71,7 @@ suffixes-back (o ∷ ss) os e t h r =
 decimal_nonempty : (n : ℕ) → same [] (decimal n) ≡ false
 decimal_nonempty n = ap (same []) (decimal_cons n).2
 
-width_read : (m : ℕ) → is_bit_width m ≡ true → number 256 (decimal m) ≡ some m
+width_read : (m : ℕ) → is_bit_width m ≡ true → number 256 (decimal m) ≡ Some m
 width_read m h = (written_read 256 m).1 (width-most m h)
 
 elementary-is-word : (e : Elementary) → is_word (elementary_text e) ≡ true

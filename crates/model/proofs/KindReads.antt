@@ -3,7 +3,7 @@
 use mathlib.Core.Path.{◌≡◌, refl}
 use mathlib.Core.Bool.{true, false≢true}
 use mathlib.Core.List.{List}
-use mathlib.Core.Option.{some}
+use Rattle.std.specs.Prelude.{Some}
 use Prim.Native.Nat.{ℕ, zero, suc, ◌≤◌}
 use native.Mathlib.Omega.{arith}
 use lib.ListN.{length}
@@ -46,12 +46,12 @@ unfolding field_text
 kind-reads f sort d n h = kind-call_admits (kind_of f) (kind_text (kind_of f)) (kind-itself (kind_of f)) (field-is-kind f sort d h) (fits-deeper (kind_of f) d deepest n (field_fits f sort d h))
 
 -- and of a record of a field
-pub kind-back : (b : List ℕ) (f : Field) → Bytes b → decode_lone b ≡ some f → length (field_text f) ≤ longest_text → (c : List ℕ) × (kind_output (field_text f) ≡ writes c) × SameKind f c
+pub kind-back : (b : List ℕ) (f : Field) → Bytes b → decode_lone b ≡ Some f → length (field_text f) ≤ longest_text → (c : List ℕ) × (kind_output (field_text f) ≡ writes c) × SameKind f c
 unfolding kind_output written kind_text_output field_text well_formed_field
 kind-back b f y e h =
     let w : well_formed_field f ≡ true = ((decode-lone-exactly b f y).0 e).0 in
     let r = kind-reads f Plain deepest (omega arith) (left _ w) h in
     let g : Field = field_of (kind_of f) in
     let v : well_formed_field g ≡ true = kind-well-formed (field_text f) g 0 r in
-    let q : decode_lone (encode_field 4 g) ≡ some g = (decode-lone-exactly (encode_field 4 g) g (encode-field-bytes g v)).1 (v, refl) in
+    let q : decode_lone (encode_field 4 g) ≡ Some g = (decode-lone-exactly (encode_field 4 g) g (encode-field-bytes g v)).1 (v, refl) in
     (encode_field 4 g, rw r, record { tree = g; says = q; bare = refl; same = kind-field (kind_of f); text = rw (q, kind-field (kind_of f)) })

@@ -3,7 +3,7 @@
 use mathlib.Core.Path.{◌≡◌, refl, ap}
 use mathlib.Core.Bool.{Bool, true, false≢true}
 use mathlib.Core.List.{List, [], ◌∷◌, ◌++◌}
-use mathlib.Core.Option.{Option, none, some}
+use Rattle.std.specs.Prelude.{Option, None, Some}
 use Prim.Native.Nat.{ℕ, zero, suc, ◌+◌, ◌*◌, ◌≤◌, ◌<◌}
 use native.Mathlib.Omega.{arith}
 use lib.Dec.{leb, eqb}
@@ -104,7 +104,7 @@ name-size : (nm : List ℕ) → length (encode_name 4 nm) ≡ 6 + length nm
 unfolding encode_name
 name-size nm = record_size 0x11 nm
 
-declaration-short : (d : Declaration) (p : Prototype) → is_declaration d ≡ true → name_kinds d ≡ some p → length (canonical p) < 2 * length (encode 4 d)
+declaration-short : (d : Declaration) (p : Prototype) → is_declaration d ≡ true → name_kinds d ≡ Some p → length (canonical p) < 2 * length (encode 4 d)
 unfolding is_declaration name_kinds canonical encode
 declaration-short (Declaration.function m nm ins outs) p h e =
     let q : record { name = nm; kinds = kinds_of ins } ≡ p = cc in
@@ -120,7 +120,7 @@ declaration-short (Declaration.error nm ins) p h e =
     let i : are_fields Plain deepest ins ≡ true = right (is_word nm) h in
     rw (← q) (simp (length-append, record_size, name-size) (omega (arith, list-line Plain ins i)))
 
-signature-by : (d : Declaration) (u : List ℕ) → is_declaration d ≡ true → signature_text d ≡ some u → length u < 2 * length (encode 4 d)
+signature-by : (d : Declaration) (u : List ℕ) → is_declaration d ≡ true → signature_text d ≡ Some u → length u < 2 * length (encode 4 d)
 unfolding is_declaration signature_text canonical encode
 signature-by (Declaration.function m nm ins outs) u h e =
     let q : canonical (record { name = nm; kinds = kinds_of ins }) ++ (ascii ":" ++ kind_text (Kind.tuple (kinds_of outs))) ≡ u = cc in
@@ -134,17 +134,17 @@ signature-by (Declaration.error nm ins) u h e = absurd (let z : ◌≡◌ {A = �
 pub refuses-not : {w : Refusal} {n : ℕ} {u : List ℕ} → refuses w n ≡ writes u → ⊥
 refuses-not e = let z : ◌≡◌ {A = ℕ} 0 1 = cc in omega arith
 
-text_of : (o : Option (List ℕ)) (u : List ℕ) → or_wrong_sort o ≡ writes u → o ≡ some u
-text_of none u e = absurd (refuses-not e)
-text_of (some v) u e = cc
+text_of : (o : Option (List ℕ)) (u : List ℕ) → or_wrong_sort o ≡ writes u → o ≡ Some u
+text_of None u e = absurd (refuses-not e)
+text_of (Some v) u e = cc
 
-pub said-by : {A : Type 0} (o : Option A) (f : A → Output) (u : List ℕ) → of_record o f ≡ writes u → (a : A) × (o ≡ some a) × (f a ≡ writes u)
-said-by none f u e = absurd (refuses-not e)
-said-by (some a) f u e = (a, refl, e)
+pub said-by : {A : Type 0} (o : Option A) (f : A → Output) (u : List ℕ) → of_record o f ≡ writes u → (a : A) × (o ≡ Some a) × (f a ≡ writes u)
+said-by None f u e = absurd (refuses-not e)
+said-by (Some a) f u e = (a, refl, e)
 
 -- `GEUSOMIN_LINE_MAX`: with the record's limit of 40,960 bytes, 81,920 are room enough for each of the three
 module _ (b u : List ℕ) (h : Bytes b) where
-  module _ (d : Declaration) (e : decode b ≡ some d) where
+  module _ (d : Declaration) (e : decode b ≡ Some d) where
     is_whole : is_declaration d ≡ true
     unfolding well_formed
     is_whole = left (leb (length (encode 4 d)) longest_record) ((decode-exactly b d h).0 e).0
@@ -152,11 +152,11 @@ module _ (b u : List ℕ) (h : Bytes b) where
     its-size : length b ≡ length (encode 4 d)
     its-size = ap length ((decode-exactly b d h).0 e).1
 
-    its-line : (o : Option Prototype) → name_kinds d ≡ o → canonical_text d ≡ some u → length u < 2 * length b
+    its-line : (o : Option Prototype) → name_kinds d ≡ o → canonical_text d ≡ Some u → length u < 2 * length b
     unfolding canonical_text
-    its-line none q f = absurd (let x : ◌≡◌ {A = Option (List ℕ)} none (some u) = rw (canonical_text, q) at f in let z : ◌≡◌ {A = ℕ} 0 1 = cc in omega arith)
-    its-line (some p) q f =
-        let x : canonical p ≡ u = let y : ◌≡◌ {A = Option (List ℕ)} (some (canonical p)) (some u) = rw (canonical_text, q) at f in cc in
+    its-line None q f = absurd (let x : ◌≡◌ {A = Option (List ℕ)} None (Some u) = rw (canonical_text, q) at f in let z : ◌≡◌ {A = ℕ} 0 1 = cc in omega arith)
+    its-line (Some p) q f =
+        let x : canonical p ≡ u = let y : ◌≡◌ {A = Option (List ℕ)} (Some (canonical p)) (Some u) = rw (canonical_text, q) at f in cc in
         omega (arith, its-size, ap length x, declaration-short d p is_whole q)
 
   pub line-short : canonical_output b ≡ writes u → length u < 2 * length b

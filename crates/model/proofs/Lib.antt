@@ -39,3 +39,4 @@ pub mod TightTrees
 pub mod Tight
 pub mod TightExamples
 pub mod Signatures
+pub mod Parts

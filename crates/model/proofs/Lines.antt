@@ -3,7 +3,7 @@
 use mathlib.Core.Path.{◌≡◌, refl, sym, ◌∙◌, ap, subst}
 use mathlib.Core.Bool.{true}
 use mathlib.Core.List.{List, [], ◌∷◌, ◌++◌, append-nil}
-use mathlib.Core.Option.{none, some}
+use Rattle.std.specs.Prelude.{None, Some}
 use Prim.Native.Nat.{ℕ, zero, suc, ◌+◌, ◌≤◌}
 use native.Mathlib.Omega.{arith}
 use lib.ListN.{length}
@@ -96,7 +96,7 @@ reads-line k sort p more e f m =
     (reads_on (fields sort) _ t [] (fields_of p.kinds) e (reads-fields sort p f) m))
 
 -- at the end of the text
-pub reads-option : {A : Type 0} (es : List (Entry A)) (d : A) → lookup es [] ≡ none → Reads (option es d) [] [] d
+pub reads-option : {A : Type 0} (es : List (Entry A)) (d : A) → lookup es [] ≡ None → Reads (option es d) [] [] d
 reads-option es d h = option-absent es d [] [] refl refl h
 
 pub reads-returns : Reads returns [] [] no_field
@@ -120,11 +120,11 @@ line-ascii k p h =
 
 -- the general call reads a line with this keyword, name and kinds
 abbrev LineReads : Keyword → Prototype → Type 0
-LineReads k p = (e : Declaration) × (n : ℕ) × (parse call.General (line k p) ≡ got e n) × (name_kinds e ≡ some p) × (keyword_in e ≡ k)
+LineReads k p = (e : Declaration) × (n : ℕ) × (parse call.General (line k p) ≡ got e n) × (name_kinds e ≡ Some p) × (keyword_in e ≡ k)
 
 module _ (k : Keyword) (p : Prototype) (f : Readable p) (short : length (line k p) ≤ longest_text) (e : Declaration) where
-  line-whole : wanted call.General (line k p) ≡ some k
-      → name_kinds e ≡ some (record { name = p.name; kinds = kinds_of (fields_of p.kinds) })
+  line-whole : wanted call.General (line k p) ≡ Some k
+      → name_kinds e ≡ Some (record { name = p.name; kinds = kinds_of (fields_of p.kinds) })
       → keyword_in e ≡ k
       → Reads (parser_of k) (line k p) [] e
       → LineReads k p
@@ -163,13 +163,13 @@ error-line p f n =
     let e : Declaration = Declaration.error p.name (fields_of p.kinds) in
     line-whole key.Error p f n e refl refl refl (reads-line key.Error Plain p (λ nm ins. return (Declaration.error nm ins)) e f (reads-return e []))
 
-declared-line : (d : Declaration) (p : Prototype) → Readable p → name_kinds d ≡ some p → length (line (keyword_in d) p) ≤ longest_text → LineReads (keyword_in d) p
+declared-line : (d : Declaration) (p : Prototype) → Readable p → name_kinds d ≡ Some p → length (line (keyword_in d) p) ≤ longest_text → LineReads (keyword_in d) p
 unfolding name_kinds keyword_in
 declared-line (Declaration.function m nm ins outs) p f q n = function-line p f n
 declared-line (Declaration.constructor m ins) p f q n = let z : ◌≡◌ {A = ℕ} 0 1 = cc in absurd (omega arith)
 declared-line (Declaration.event a nm ins) p f q n = event-line p f n
 declared-line (Declaration.error nm ins) p f q n = error-line p f n
 
-pub line_reads : (d : Declaration) (p : Prototype) → well_formed d ≡ true → name_kinds d ≡ some p → length (line (keyword_in d) p) ≤ longest_text → LineReads (keyword_in d) p
+pub line_reads : (d : Declaration) (p : Prototype) → well_formed d ≡ true → name_kinds d ≡ Some p → length (line (keyword_in d) p) ≤ longest_text → LineReads (keyword_in d) p
 unfolding well_formed
 line_reads d p h q = declared-line d p (subst (In Readable) q (readable d (left _ h))) q

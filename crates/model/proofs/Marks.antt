@@ -3,7 +3,7 @@
 use mathlib.Core.Path.{◌≡◌, refl}
 use mathlib.Core.Bool.{Bool, true, false, ◌&&◌, ◌||◌, false≢true, or-true}
 use mathlib.Core.List.{List, [], ◌∷◌, ◌++◌}
-use mathlib.Core.Option.{Option, none, some}
+use Rattle.std.specs.Prelude.{Option, None, Some}
 use Prim.Native.Nat.{ℕ, ◌^◌, ◌<◌}
 use native.Mathlib.Omega.{arith}
 use lib.Dec.{ltb, eqb}
@@ -30,8 +30,8 @@ lookup-has [] w = tt
 lookup-has (entry v n ∷ es) w = tested (In (λ m. (eqb m n || has_mark es m) ≡ true)) (same v w) (λ _. rw (eq-eqb n n refl)) (λ _. later (lookup es w) (lookup-has es w))
   where
     later : (o : Option ℕ) → In (λ m. has_mark es m ≡ true) o → In (λ m. (eqb m n || has_mark es m) ≡ true) o
-    later none i = tt
-    later (some m) i = rw i (or-true (eqb m n))
+    later None i = tt
+    later (Some m) i = rw i (or-true (eqb m n))
 
 -- what holds of each mark of a table
 module _ (P : ℕ → Bool) where
@@ -45,12 +45,12 @@ module _ (P : ℕ → Bool) where
 
 -- the test: one byte holds the mark, and the word that it is written by stands for it in the table
 abbrev is_found : ℕ → Option ℕ → Bool
-is_found m none = false
-is_found m (some n) = eqb n m
+is_found m None = false
+is_found m (Some n) = eqb n m
 
-found_some : (m : ℕ) (o : Option ℕ) → is_found m o ≡ true → o ≡ some m
-found_some m none h = absurd (false≢true h)
-found_some m (some n) h = rw (eqb-true n m h)
+found_some : (m : ℕ) (o : Option ℕ) → is_found m o ≡ true → o ≡ Some m
+found_some m None h = absurd (false≢true h)
+found_some m (Some n) h = rw (eqb-true n m h)
 
 abbrev is_row : List (Entry ℕ) → ℕ → Bool
 is_row es m = ltb m 256 && (is_word (mark_word m) && is_found m (lookup es (mark_word m)))
@@ -75,7 +75,7 @@ module _ (sort : Sort) (l : Bool) (m : ℕ) where
   pub mark-worded : has_mark (marks_by sort l) m ≡ true → is_word (mark_word m) ≡ true
   mark-worded h = left _ (right (ltb m 256) (row h))
 
-  pub mark-found : has_mark (marks_by sort l) m ≡ true → lookup (marks_by sort l) (mark_word m) ≡ some m
+  pub mark-found : has_mark (marks_by sort l) m ≡ true → lookup (marks_by sort l) (mark_word m) ≡ Some m
   mark-found h = found_some m _ (right (is_word (mark_word m)) (right (ltb m 256) (row h)))
 
 -- what holds of each word of a table, and of none, holds of what is written for a number

@@ -3,7 +3,7 @@
 use mathlib.Core.Path.{◌≡◌, refl, ap}
 use mathlib.Core.Bool.{Bool, true, false, ◌||◌}
 use mathlib.Core.List.{List, [], ◌∷◌, ◌++◌}
-use mathlib.Core.Option.{Option, none, some}
+use Rattle.std.specs.Prelude.{Option, None, Some}
 use Prim.Native.Nat.{ℕ, ◌+◌, ◌*◌, ◌-◌, ◌/◌, ◌%◌, ◌≤◌}
 use native.Mathlib.Omega.{arith}
 use lib.Dec.{leb, ltb, eqb}
@@ -52,10 +52,10 @@ unicode-short b = go (ltb b 32 || eqb b 127)
     go true = simp length-append (omega (arith, hex-short b))
     go false = omega arith
 
-escape-short : (b : ℕ) → length (escape b) ≤ 6
+pub escape-short : (b : ℕ) → length (escape b) ≤ 6
 escape-short b = selected (λ t. length t ≤ 6) escapes (unicode b) b (omega arith, (omega arith, (omega arith, (omega arith, (omega arith, (omega arith, tt)))))) (unicode-short b)
 
-escaped-short : (t : List ℕ) → length (escaped t) ≤ 6 * length t
+pub escaped-short : (t : List ℕ) → length (escaped t) ≤ 6 * length t
 unfolding escaped
 escaped-short [] = omega arith
 escaped-short (b ∷ t) = simp length-append (omega (arith, escape-short b, escaped-short t))
@@ -77,7 +77,7 @@ unfolding whole_to
 to-short t = rw length-take (omega arith)
 
 -- ten bytes each side, a bar between them, and two ellipses
-context-short : (s : List ℕ) (p : ℕ) → length (context s p) ≤ 27
+pub context-short : (s : List ℕ) (p : ℕ) → length (context s p) ≤ 27
 unfolding context
 context-short s p =
     let start = p - reach in
@@ -95,17 +95,17 @@ keyword-short key.Error = omega arith
 
 -- the longest is `expected end of declaration`
 abbrev AtMost : Option (List ℕ) → Type 0
-AtMost none = Unit {0}
-AtMost (some v) = length v ≤ 27
+AtMost None = Unit {0}
+AtMost (Some v) = length v ≤ 27
 
 keyword-wording-short : (k : Option Keyword) → AtMost (expected_keyword k)
-keyword-wording-short none = tt
-keyword-wording-short (some k) = simp length-append (omega (arith, keyword-short k))
+keyword-wording-short None = tt
+keyword-wording-short (Some k) = simp length-append (omega (arith, keyword-short k))
 
 wording-short : (w : Refusal) (k : Option Keyword) → AtMost (wording w k)
 unfolding wording
 wording-short w k =
-    selected AtMost (wording_cases k) none (number w)
+    selected AtMost (wording_cases k) None (number w)
     (omega arith, (omega arith, (omega arith, (omega arith, (keyword-wording-short k, (omega arith, (omega arith, tt))))))) tt
 
 -- no refusal of a reading call stands past the longest text
@@ -123,8 +123,8 @@ unfolding message_output message_text
 message-short c s u e = go (parse c s) refl e
   where
     worded : (p : ℕ) → p ≤ longest_text → (o : Option (List ℕ)) → AtMost o → message_by s p o ≡ writes u → length u ≤ 256
-    worded p h none l f = let q : [] ≡ u = cc in omega (arith, ap length q)
-    worded p h (some v) l f =
+    worded p h None l f = let q : [] ≡ u = cc in omega (arith, ap length q)
+    worded p h (Some v) l f =
         let q : message_text s p v ≡ u = cc in
         rw (← q) (simp length-append (omega (arith, decimal-short 4 p (omega arith) (omega arith), escaped-short (context s p), context-short s p)))
 

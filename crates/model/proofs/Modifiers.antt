@@ -3,7 +3,7 @@
 use mathlib.Core.Path.{◌≡◌, refl, sym, ◌∙◌, ap, subst}
 use mathlib.Core.Bool.{true, false, false≢true}
 use mathlib.Core.List.{List, [], ◌∷◌, ◌++◌, append_assoc}
-use mathlib.Core.Option.{none, some}
+use Rattle.std.specs.Prelude.{None, Some}
 use Prim.Native.Nat.{ℕ}
 use native.Mathlib.Omega.{arith}
 use lib.Dec.{eqb}
@@ -25,12 +25,12 @@ use Rattle.model.proofs.Stands.{peek-first, Reads, reads_then, reads_on, reads-r
 -- Words of the tables.
 
 -- what holds of a word that a table has, from what holds of each of its words
-pub listed : {A : Type 0} (Q : List ℕ → Type 0) (es : List (Entry A)) (w : List ℕ) (a : A) → Entries (λ v _. Q v) es → lookup es w ≡ some a → Q w
+pub listed : {A : Type 0} (Q : List ℕ → Type 0) (es : List (Entry A)) (w : List ℕ) (a : A) → Entries (λ v _. Q v) es → lookup es w ≡ Some a → Q w
 listed Q es w a h e = subst (In (λ _. Q w)) e (lookup-of (λ v _. Q v) es w h)
 
 -- no word is of both sorts
-pub one-sort : (w : List ℕ) (m : ℕ) → lookup mutabilities w ≡ some m → lookup visibilities w ≡ none
-one-sort w m = listed (λ v. lookup visibilities v ≡ none) mutabilities w m (refl, (refl, (refl, tt)))
+pub one-sort : (w : List ℕ) (m : ℕ) → lookup mutabilities w ≡ Some m → lookup visibilities w ≡ None
+one-sort w m = listed (λ v. lookup visibilities v ≡ None) mutabilities w m (refl, (refl, (refl, tt)))
 
 -- Where they stand.
 
@@ -45,7 +45,7 @@ no_modifiers =
 
 -- "at most one of these and at most one mutability word may stand, in either order": each behind a space, with r behind them, which does not go
 -- on with the word, they are read as that mutability
-module _ (v w r : List ℕ) (m : ℕ) (seen : lookup visibilities v ≡ some true) (means : lookup mutabilities w ≡ some m) (ends : one is_word_byte r ≡ 0) where
+module _ (v w r : List ℕ) (m : ℕ) (seen : lookup visibilities v ≡ Some true) (means : lookup mutabilities w ≡ Some m) (ends : one is_word_byte r ≡ 0) where
   visible : (u : List ℕ) → one is_word_byte u ≡ 0 → FindsWord (space ∷ v) u v
   visible u = word_spaced v u (listed (λ x. is_word x ≡ true) visibilities v true (refl, (refl, tt)) seen)
 
@@ -101,7 +101,7 @@ module _ (s : List ℕ) (at : ℕ) where
   other_byte : (c : ℕ) → is_word (word s at) ≡ true → is_letter c ≡ false → eqb (peek s (skip s at)) c ≡ false
   other_byte c h k = ne_eqb _ c (λ e. false≢true (sym k ∙ subst (λ d. is_letter d ≡ true) (sym (word_first s at h) ∙ e) (first_letter (word s at) h)))
 
-  refused-there : {A : Type 0} (es : List (Entry A)) (a : A) → Entries (λ v _. (is_word v ≡ true) × (same (ascii "returns") v ≡ false)) es → lookup es (word s at) ≡ some a → (returns s at ≡ got no_field at) × (end s at ≡ bad ExpectEnd (skip s at))
+  refused-there : {A : Type 0} (es : List (Entry A)) (a : A) → Entries (λ v _. (is_word v ≡ true) × (same (ascii "returns") v ≡ false)) es → lookup es (word s at) ≡ Some a → (returns s at ≡ got no_field at) × (end s at ≡ bad ExpectEnd (skip s at))
   unfolding returns keyword_of end look then
   refused-there es a h e =
       let (k, l) = listed (λ v. (is_word v ≡ true) × (same (ascii "returns") v ≡ false)) es (word s at) a h e in (
@@ -116,8 +116,8 @@ module _ (s : List ℕ) (nm : List ℕ) (ins : Fields) (m n₁ n₂ n₃ n : ℕ
   unfolding exec function then on_ans
   refused-behind (none-returned, unended) = rw (exec, function, opens, named, takes, states, none-returned, unended)
 
-  pub second-visibility : lookup visibilities (word s n) ≡ some true → exec function s ≡ bad ExpectEnd (skip s n)
+  pub second-visibility : lookup visibilities (word s n) ≡ Some true → exec function s ≡ bad ExpectEnd (skip s n)
   second-visibility e = refused-behind (refused-there s n visibilities true ((refl, refl), ((refl, refl), tt)) e)
 
-  pub second-mutability : (x : ℕ) → lookup mutabilities (word s n) ≡ some x → exec function s ≡ bad ExpectEnd (skip s n)
+  pub second-mutability : (x : ℕ) → lookup mutabilities (word s n) ≡ Some x → exec function s ≡ bad ExpectEnd (skip s n)
   second-mutability x e = refused-behind (refused-there s n mutabilities x ((refl, refl), ((refl, refl), ((refl, refl), tt))) e)

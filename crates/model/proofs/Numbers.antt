@@ -6,9 +6,8 @@ use native.Mathlib.Omega.{arith}
 use denote.Enum.Declared.{tag_of}
 use Rattle.model.specs.declared.Refusal.{Refusal}
 use Rattle.model.specs.declared.Refusal.TheVariants.{Eos, ExpectOpen, ExpectClose, ExpectDeclaration, ExpectKeyword, ExpectIdentifier, ExpectEnd, TooLong, NotUtf8, TooDeep, InvalidBitWidth, InvalidByteLength, Unknown, NotWellFormed, WrongSort, NoRoom, SheetTooLong, TooManyDeclarations, Repeated, CallTooLong, NotAnEncoding, NoSuchFunction, SheetChanged, NotTight, NoSuchSample}
-use Rattle.model.specs.declared.Answer.{Answer}
-use Rattle.model.specs.declared.Answer.TheVariants.{Accepted, Refused}
-use Rattle.model.specs.Answer.{refused, number, said}
+use Rattle.std.specs.Prelude.{Ok, Err}
+use Rattle.model.specs.Answer.{Answer, refused, number, said}
 use Rattle.model.specs.contracts.Refusal.{the_type}
 
 -- numbers that no refusal has; and the number of a refusal that stands behind the first seven in the enum
@@ -52,5 +51,5 @@ number-behind_7 w h = (numbers w).2 h
 -- so no call says it
 pub never_14 : (a : Answer) (p : ℕ) → said a ≡ refused 14 p → ⊥
 unfolding said
-never_14 (Accepted n) p e = let z : ◌≡◌ {A = ℕ} 0 1 = cc in omega arith
-never_14 (Refused w q) p e = no_refusal_14 w cc
+never_14 (Ok n) p e = let z : ◌≡◌ {A = ℕ} 0 1 = cc in omega arith
+never_14 (Err r) p e = no_refusal_14 r.refusal cc

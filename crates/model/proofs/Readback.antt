@@ -3,7 +3,7 @@
 use mathlib.Core.Path.{◌≡◌, refl, sym, ◌∙◌, ap}
 use mathlib.Core.Bool.{Bool, true, false, ◌&&◌, ◌||◌, false≢true}
 use mathlib.Core.List.{List, [], ◌∷◌, ◌++◌, append_assoc}
-use mathlib.Core.Option.{Option, none, some}
+use Rattle.std.specs.Prelude.{Option, None, Some}
 use Prim.Native.Nat.{ℕ, zero, suc, ◌+◌, ◌≤◌}
 use native.Mathlib.Omega.{arith}
 use lib.Dec.{eqb}
@@ -52,13 +52,13 @@ name-behind : (nm r : List ℕ) → is_end r ≡ true → one is_word_byte (name
 name-behind [] r k = (quiet r (end_quiet r k)).unbyte
 name-behind (c ∷ w) r k = refl
 
-absent_none : {A : Type 0} (o : Option A) → is_absent o ≡ true → o ≡ none
-absent_none none h = refl
-absent_none (some a) h = absurd (false≢true h)
+absent_none : {A : Type 0} (o : Option A) → is_absent o ≡ true → o ≡ None
+absent_none None h = refl
+absent_none (Some a) h = absurd (false≢true h)
 
 module _ (es : List (Entry ℕ)) (m : ℕ) (nm r : List ℕ) (i : is_end r ≡ true) where
   -- a word of a table that stands for the mark, in front of a name
-  word-there : (w : List ℕ) → is_word w ≡ true → lookup es w ≡ some m → Reads (option es unmarked) (name_text w) (name_text nm ++ r) m
+  word-there : (w : List ℕ) → is_word w ≡ true → lookup es w ≡ Some m → Reads (option es unmarked) (name_text w) (name_text nm ++ r) m
   word-there [] g l = absurd (false≢true g)
   word-there (c ∷ w) g l = option-there es unmarked m (space ∷ c ∷ w) (name_text nm ++ r) (c ∷ w) (word_spaced (c ∷ w) (name_text nm ++ r) g (name-behind nm r i)) l
 

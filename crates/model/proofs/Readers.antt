@@ -3,7 +3,7 @@
 use mathlib.Core.Path.{◌≡◌, refl, sym, ap, subst}
 use mathlib.Core.Bool.{Bool, true, false, ◌&&◌, or-true}
 use mathlib.Core.List.{List, [], ◌∷◌}
-use mathlib.Core.Option.{Option, none, some}
+use Rattle.std.specs.Prelude.{Option, None, Some}
 use Prim.Native.Nat.{ℕ, zero, suc, ◌+◌, ◌*◌, ◌≤◌, ◌<◌}
 use native.Mathlib.Omega.{arith}
 use lib.Dec.{leb, eqb, lit<}
@@ -40,7 +40,7 @@ span-all p (c ∷ t) = go (p c) refl (span-all p t)
     go true e h = rw (span_from, one, e) (both e h)
     go false e h = rw (span_from, one, e) refl
 
-word_le : (t : List ℕ) → word_length t ≤ length t
+pub word_le : (t : List ℕ) → word_length t ≤ length t
 unfolding word_length
 word_le [] = omega arith
 word_le (c ∷ t) = tested (λ n. n ≤ suc (length t)) (is_letter c) (λ e. omega (arith, span_le (one is_word_byte) t)) (λ e. omega arith)
@@ -87,8 +87,8 @@ module _ (s : List ℕ) where
   keyword_in_lem {A} Q es at h q = go (lookup es (word s at)) (lookup-of Q es (word s at) q)
     where
       go : (o : Option A) → In (Q (word s at)) o → Finds (Read s (λ a n. Q (word s at) a) (λ _. 10 * length (word s at)) at) (found_by o (word_end s at))
-      go none k = misses tt
-      go (some a) k = let w = word-places s at h in
+      go None k = misses tt
+      go (Some a) k = let w = word-places s at h in
           finds k (omega arith) w.1
 
   pub keyword-of : (w : List ℕ) (at : ℕ) → at ≤ length s → Of s (Read s (λ _ _. word s at ≡ w) (λ _. 10 * length w) at) (keyword w s at)
@@ -156,9 +156,9 @@ module _ (s : List ℕ) where
   array-suffix-of at h = go (look-of s lbracket at (lit< tt) h)
     where
       close : {r : Found (Unit {0})} {b : ℕ} (m : List ℕ) (x : Option Suffix) → at + 1 + length m ≤ b → In (Inside m) x → Finds (OneChar s b) r → Finds (OneSuffix s at) (closed x r)
-      close m none l i k = misses tt
-      close m (some o) l i (misses k) = misses tt
-      close m (some o) l i (sees k) = finds i.valid (omega arith) k.within
+      close m None l i k = misses tt
+      close m (Some o) l i (misses k) = misses tt
+      close m (Some o) l i (sees k) = finds i.valid (omega arith) k.within
 
       go : {r : Found (Unit {0})} → Finds (OneChar s at) r → Finds (OneSuffix s at) (opened s r)
       go (misses k) = misses tt
@@ -208,8 +208,8 @@ module _ (s : List ℕ) where
   mark_of es at h = go (lookup es (word s at)) refl (lookup-has es (word s at))
     where
       go : (o : Option ℕ) → lookup es (word s at) ≡ o → In (λ m. has_mark es m ≡ true) o → Of s (Read s (λ m n. is_mark es m (word s n) ≡ true) (λ _. 0) at) (or_else unmarked at (found_by o (word_end s at)))
-      go none e i = gives (rw (is_mark, e) (or-true (has_mark es unmarked))) (omega arith) h
-      go (some m) e i = let w = word-places s at h in gives (rw (is_mark, i)) (omega arith) w.1
+      go None e i = gives (rw (is_mark, e) (or-true (has_mark es unmarked))) (omega arith) h
+      go (Some m) e i = let w = word-places s at h in gives (rw (is_mark, i)) (omega arith) w.1
 
   pub field-of : (sort : Sort) (T : Parser FieldKind) (d at : ℕ) → ((p : ℕ) → p < length s → Of s (OneKind s d p) (T s p)) → at ≤ length s → Of s (OneField s sort d at) (field_by sort T s at)
   unfolding field_by is_field

@@ -4,7 +4,8 @@ use mathlib.Core.Path.{◌≡◌, refl, sym, ◌∙◌, ap}
 use mathlib.Core.Logic.{◌↔◌}
 use mathlib.Core.Bool.{Bool, true, false, ◌&&◌, false≢true, and-eq-true_iff}
 use mathlib.Core.List.{List, [], ◌∷◌, ◌++◌, append-nil}
-use mathlib.Core.Option.{Option, none, some, none-ne-some, some-injective}
+use Rattle.std.specs.Prelude.{Option, None, Some}
+use Rattle.std.proofs.lemmas.Option.{none-some, same_Some}
 use Prim.Native.Nat.{ℕ, zero, suc, ◌^◌, ◌<◌}
 use native.Mathlib.Omega.{arith}
 use lib.Dec.{leb, eqb, lit<}
@@ -86,16 +87,16 @@ module _ (w : ℕ) where
     abbrev chosen : Bool → ℕ → List ℕ → Option Base
     chosen t k body = elim t [ true ↦ on_option tuple (T body) | false ↦ on_option elementary (decode_elementary k body) ]
 
-    base-from : (k : ℕ) (body : List ℕ) (b : Base) → Bytes body → (t : Bool) → eqb k 0x9 ≡ t → chosen t k body ≡ some b → (is_base d b ≡ true) × (encode_base w b ≡ record_of w k body)
+    base-from : (k : ℕ) (body : List ℕ) (b : Base) → Bytes body → (t : Bool) → eqb k 0x9 ≡ t → chosen t k body ≡ Some b → (is_base d b ≡ true) × (encode_base w b ≡ record_of w k body)
     unfolding is_base encode_base decode_elementary
     base-from k body b h true p e = on_some tuple (T body) e (λ fs q same. let (g, u) = S.from body fs h q in rw (← same, eqb-true k 0x9 p) (g, ap (record_of w 0x9) (sym u)))
     base-from k body b h false p e =
         on_some elementary (decode_elementary k body) e (λ x q same. rw (← same) (select-sound w is_elementary (encode_elementary w) elementary_cases elementary-from k body x h q))
 
     -- no elementary kind has the number of a tuple
-    not-tuple : (k : ℕ) (body : List ℕ) (x : Elementary) → decode_elementary k body ≡ some x → (t : Bool) → eqb k 0x9 ≡ t → chosen t k body ≡ some (elementary x)
+    not-tuple : (k : ℕ) (body : List ℕ) (x : Elementary) → decode_elementary k body ≡ Some x → (t : Bool) → eqb k 0x9 ≡ t → chosen t k body ≡ Some (elementary x)
     unfolding decode_elementary
-    not-tuple k body x e true p = absurd (none-ne-some x (rw (eqb-true k 0x9 p) at e))
+    not-tuple k body x e true p = absurd (none-some x (rw (eqb-true k 0x9 p) at e))
     not-tuple k body x e false p = ap (on_option elementary) e
 
     base-to : (b : Base) → is_base d b ≡ true → length (encode_base w b) < 256 ^ w → Written w (base_from T) (encode_base w b) b
@@ -120,7 +121,7 @@ module _ (w : ℕ) where
         when-some (is_mark (marks sort (record { base = b; suffixes = ss })) (le_value (take 2 body)) nm && is_field_name nm) _ e₅ (λ g₅ e₆.
         let (g₁, g₂) = (and-eq-true_iff (is_mark (marks sort (record { base = b; suffixes = ss })) (le_value (take 2 body)) nm) (is_field_name nm)).0 g₅ in
         let (g₄, u₄) = suffixes_spells.from r₃ ss h₃ q in
-        rw (← (some-injective _ _ e₆)) (both g₁ (both g₂ (both g₃ g₄)), cc (eqb-true k 0x10 p))))))))
+        rw (← (same_Some _ _ e₆)) (both g₁ (both g₂ (both g₃ g₄)), cc (eqb-true k 0x10 p))))))))
 
     field-to : (a : Field) → is_field sort d a ≡ true → length (encode_field w a) < 256 ^ w → Written w (field_from w sort B) (encode_field w a) a
     unfolding field_from is_field marks encode_field encode_name
@@ -148,7 +149,7 @@ module _ (w : ℕ) where
 
   pub tuple_spells : (d : ℕ) → Spells w (tuple_from w d) (λ fs. is_base d (tuple fs)) (encode_fields w)
   unfolding tuple_from is_base
-  tuple_spells zero = record { from = λ b fs h e. absurd (none-ne-some fs e); to = λ fs g f. absurd (false≢true g) }
+  tuple_spells zero = record { from = λ b fs h e. absurd (none-some fs e); to = λ fs g f. absurd (false≢true g) }
   tuple_spells (suc d) = fields_spells Plain d (base_from (tuple_from w d)) (base-reads (tuple_from w d) d (tuple_spells d))
 
   outer_reads : Reads w (base_from (tuple_from w deepest)) (is_base deepest) (encode_base w)
@@ -181,7 +182,7 @@ module _ (w : ℕ) where
       to = λ fs r f g l. kind-to w 0x12 (encode_fields w fs) r _ (lit< tt) l ∙ (rw ((inputs_spells sort).to fs g (omega (arith, rw record_length at l))));
     }
 
-    last-from : {Q : Type 0} (sort : Sort) (b : List ℕ) (f : Fields → Option A) (a : A) → Bytes b → list_from w sort b (λ fs r. ended r (f fs)) ≡ some a → ((fs : Fields) → are_fields sort deepest fs ≡ true → b ≡ encode_list w fs → f fs ≡ some a → Q) → Q
+    last-from : {Q : Type 0} (sort : Sort) (b : List ℕ) (f : Fields → Option A) (a : A) → Bytes b → list_from w sort b (λ fs r. ended r (f fs)) ≡ Some a → ((fs : Fields) → are_fields sort deepest fs ≡ true → b ≡ encode_list w fs → f fs ≡ Some a → Q) → Q
     last-from sort b f a h e next =
         (list-part sort).from b _ a h e (λ fs r g u k q. ended_some r _ q (λ t s. next fs g (u ∙ ap (λ y. encode_list w fs ++ y) t ∙ append-nil _) s))
 
@@ -196,7 +197,7 @@ module _ (w : ℕ) where
       (list-part Parameter).from r₂ _ d h₂ e₂ (λ ins r₃ g₃ u₃ h₃ e₃.
       last-from Parameter r₃ _ d h₃ e₃ (λ outs g₄ u₄ e₄.
       when-some (leb (le_value (take 2 body)) 3) _ e₄ (λ g₁ e₅.
-      rw (← (some-injective _ _ e₅)) (both g₁ (both g₂ (both g₃ g₄)), cc))))))
+      rw (← (same_Some _ _ e₅)) (both g₁ (both g₂ (both g₃ g₄)), cc))))))
 
   constructor-from : Sound w is_declaration (encode w) 0x21 (constructor_from w)
   unfolding is_declaration encode
@@ -204,7 +205,7 @@ module _ (w : ℕ) where
       fronted-some body _ h e (λ u₁ h₁ e₁.
       last-from Parameter (drop 2 body) _ d h₁ e₁ (λ ins g₂ u₂ e₂.
       when-some (between 2 3 (le_value (take 2 body))) _ e₂ (λ g₁ e₃.
-      rw (← (some-injective _ _ e₃)) (both g₁ g₂, cc))))
+      rw (← (same_Some _ _ e₃)) (both g₁ g₂, cc))))
 
   event-from : Sound w is_declaration (encode w) 0x22 (event_from w)
   unfolding is_declaration encode
@@ -213,14 +214,14 @@ module _ (w : ℕ) where
       name-part.from (drop 2 body) _ d h₁ e₁ (λ nm r₂ g₂ u₂ h₂ e₂.
       last-from Event r₂ _ d h₂ e₂ (λ ins g₃ u₃ e₃.
       when-some (leb (le_value (take 2 body)) 1) _ e₃ (λ g₁ e₄.
-      rw (← (some-injective _ _ e₄)) (both g₁ (both g₂ g₃), cc)))))
+      rw (← (same_Some _ _ e₄)) (both g₁ (both g₂ g₃), cc)))))
 
   error-from : Sound w is_declaration (encode w) 0x23 (error_from w)
   unfolding is_declaration encode
   error-from body d h e =
       name-part.from body _ d h e (λ nm r₁ g₁ u₁ h₁ e₁.
       last-from Plain r₁ _ d h₁ e₁ (λ ins g₂ u₂ e₂.
-      rw (← (some-injective _ _ e₂)) (both g₁ g₂, cc)))
+      rw (← (same_Some _ _ e₂)) (both g₁ g₂, cc)))
 
   declaration-to : (d : Declaration) → is_declaration d ≡ true → length (encode w d) < 256 ^ w → Written w (decode_declaration w) (encode w d) d
   unfolding is_declaration encode decode_declaration
@@ -259,26 +260,26 @@ module _ {A : Type 0} (D : ℕ → List ℕ → Option A) (good : A → Bool) (e
   fits : (b : List ℕ) → leb (length b) longest_record ≡ true → length b < 256 ^ 4
   fits b h = omega (arith, leb-true (length b) longest_record h)
 
-  whole_from_lem : (b : List ℕ) (a : A) → Bytes b → whole D b ≡ some a → ((good a && leb (length (enc a)) longest_record) ≡ true) × (b ≡ enc a)
+  whole_from_lem : (b : List ℕ) (a : A) → Bytes b → whole D b ≡ Some a → ((good a && leb (length (enc a)) longest_record) ≡ true) × (b ≡ enc a)
   whole_from_lem b a h e =
       when-some (leb (length b) longest_record) _ e (λ l q.
       let (g, u) = (alone-exactly 4 D good enc R b a h (fits b l)).0 q in
       (both g (rw u at l), u))
 
-  whole_to_lem : (a : A) → (good a && leb (length (enc a)) longest_record) ≡ true → whole D (enc a) ≡ some a
+  whole_to_lem : (a : A) → (good a && leb (length (enc a)) longest_record) ≡ true → whole D (enc a) ≡ Some a
   whole_to_lem a h = let (g, l) = (and-eq-true_iff (good a) _).0 h in rw l (alone-to 4 D good enc R a g (fits (enc a) l))
 
-  whole-exactly : (b : List ℕ) (a : A) → Bytes b → (whole D b ≡ some a) ↔ (((good a && leb (length (enc a)) longest_record) ≡ true) × (b ≡ enc a))
+  whole-exactly : (b : List ℕ) (a : A) → Bytes b → (whole D b ≡ Some a) ↔ (((good a && leb (length (enc a)) longest_record) ≡ true) × (b ≡ enc a))
   whole-exactly b a h = (whole_from_lem b a h, λ p. rw p.1 (whole_to_lem a p.0))
 
   whole_injective : (a b : A) → (good a && leb (length (enc a)) longest_record) ≡ true → (good b && leb (length (enc b)) longest_record) ≡ true → enc a ≡ enc b → a ≡ b
   whole_injective a b h k u = let (g, l) = (and-eq-true_iff (good a) _).0 h in alone_injective 4 D good enc R a b g (left _ k) (fits (enc a) l) u
 
-pub decode-exactly : (b : List ℕ) (d : Declaration) → Bytes b → (decode b ≡ some d) ↔ ((well_formed d ≡ true) × (b ≡ encode 4 d))
+pub decode-exactly : (b : List ℕ) (d : Declaration) → Bytes b → (decode b ≡ Some d) ↔ ((well_formed d ≡ true) × (b ≡ encode 4 d))
 unfolding decode well_formed
 decode-exactly = whole-exactly (decode_declaration 4) is_declaration (encode 4) (declaration-reads 4)
 
-pub decode-lone-exactly : (b : List ℕ) (f : Field) → Bytes b → (decode_lone b ≡ some f) ↔ ((well_formed_field f ≡ true) × (b ≡ encode_field 4 f))
+pub decode-lone-exactly : (b : List ℕ) (f : Field) → Bytes b → (decode_lone b ≡ Some f) ↔ ((well_formed_field f ≡ true) × (b ≡ encode_field 4 f))
 unfolding decode_lone well_formed_field
 decode-lone-exactly = whole-exactly (decode_field 4 Plain) (is_field Plain deepest) (encode_field 4) (lone-reads 4 Plain)
 
@@ -291,21 +292,21 @@ unfolding well_formed_field
 encode-field_injective = whole_injective (decode_field 4 Plain) (is_field Plain deepest) (encode_field 4) (lone-reads 4 Plain)
 
 -- a field record is never a declaration's
-not-field : (k : ℕ) (body : List ℕ) (d : Declaration) → decode_declaration 4 k body ≡ some d → decode_field 4 Plain k body ≡ none
+not-field : (k : ℕ) (body : List ℕ) (d : Declaration) → decode_declaration 4 k body ≡ Some d → decode_field 4 Plain k body ≡ None
 unfolding decode_declaration decode_field field_from
 not-field k body d e = go (eqb k 0x10) refl
   where
-    go : (t : Bool) → eqb k 0x10 ≡ t → decode_field 4 Plain k body ≡ none
-    go true p = absurd (none-ne-some d (rw (eqb-true k 0x10 p) at e))
+    go : (t : Bool) → eqb k 0x10 ≡ t → decode_field 4 Plain k body ≡ None
+    go true p = absurd (none-some d (rw (eqb-true k 0x10 p) at e))
     go false p = rw p
 
-apart : (t : Bool) (p : Piece) (d : Declaration) → when t (on_piece p (λ k body r. ended r (decode_declaration 4 k body))) ≡ some d → when t (on_piece p (λ k body r. ended r (decode_field 4 Plain k body))) ≡ none
+apart : (t : Bool) (p : Piece) (d : Declaration) → when t (on_piece p (λ k body r. ended r (decode_declaration 4 k body))) ≡ Some d → when t (on_piece p (λ k body r. ended r (decode_field 4 Plain k body))) ≡ None
 apart false p d e = refl
 apart true no_piece d e = refl
 apart true (piece k body []) d e = not-field k body d e
 apart true (piece k body (c ∷ r)) d e = refl
 
-pub decode-not-lone : (b : List ℕ) (d : Declaration) → decode b ≡ some d → decode_lone b ≡ none
+pub decode-not-lone : (b : List ℕ) (d : Declaration) → decode b ≡ Some d → decode_lone b ≡ None
 unfolding decode decode_lone
 decode-not-lone b d e = apart (leb (length b) longest_record) (piece_of 4 b) d e
 

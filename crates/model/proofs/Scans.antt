@@ -3,7 +3,7 @@
 use mathlib.Core.Path.{◌≡◌, refl, sym, ◌∙◌, ap}
 use mathlib.Core.Bool.{Bool, true, false, ◌&&◌, ◌||◌, not, cond, and-eq-true_iff}
 use mathlib.Core.List.{List, [], ◌∷◌, ◌++◌, append-nil}
-use mathlib.Core.Option.{Option, none, some}
+use Rattle.std.specs.Prelude.{Option, None, Some}
 use Prim.Native.Nat.{ℕ, zero, suc, ◌+◌, ◌*◌, ◌-◌, ◌≤◌, ◌<◌, zero-le, suc-le-suc}
 use native.Mathlib.Omega.{arith}
 use native.Mathlib.Nat.{zero-add}
@@ -130,21 +130,21 @@ module _ (f : List ℕ → ℕ) (t : List ℕ) (i n m : ℕ) (h : i ≤ length t
 -- Characters.
 
 -- tail bytes lie within the list
-tails-inside : (k v w : ℕ) (t : List ℕ) → tails k v t ≡ some w → k ≤ length t
+tails-inside : (k v w : ℕ) (t : List ℕ) → tails k v t ≡ Some w → k ≤ length t
 tails-inside zero v w t e = omega arith
 tails-inside (suc k) v w [] e = let y : ◌≡◌ {A = ℕ} 0 1 = cc in omega arith
 tails-inside (suc k) v w (c ∷ t) e = go (is_tail c) refl (λ q. tails-inside k (v * 64 + (c - 0x80)) w t q)
   where
-    go : (b : Bool) → is_tail c ≡ b → (tails k (v * 64 + (c - 0x80)) t ≡ some w → k ≤ length t) → suc k ≤ suc (length t)
+    go : (b : Bool) → is_tail c ≡ b → (tails k (v * 64 + (c - 0x80)) t ≡ Some w → k ≤ length t) → suc k ≤ suc (length t)
     go true q ih = suc-le-suc (ih (rw (tails, q) at e))
-    go false q ih = let z : none ≡ some w = rw (tails, q) at e in let y : ◌≡◌ {A = ℕ} 0 1 = cc in omega arith
+    go false q ih = let z : None ≡ Some w = rw (tails, q) at e in let y : ◌≡◌ {A = ℕ} 0 1 = cc in omega arith
 
 scalar-inside : (n low k v : ℕ) (t : List ℕ) → n ≤ suc k → char_length (scalar n low (tails k v t)) ≤ suc (length t)
 scalar-inside n low k v t h = go (tails k v t) refl
   where
     go : (o : Option ℕ) → tails k v t ≡ o → char_length (scalar n low o) ≤ suc (length t)
-    go none e = omega arith
-    go (some w) e = test (between low 0x10FFFF w && not (between 0xD800 0xDFFF w))
+    go None e = omega arith
+    go (Some w) e = test (between low 0x10FFFF w && not (between 0xD800 0xDFFF w))
       where
         test : (b : Bool) → char_length (elim b [ true ↦ char w n | false ↦ no_char ]) ≤ suc (length t)
         test true = omega (arith, tails-inside k v w t e)

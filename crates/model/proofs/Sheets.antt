@@ -5,7 +5,8 @@ use mathlib.Core.Path.{◌≡◌, refl, sym, ◌∙◌, ap}
 use mathlib.Core.Logic.{◌↔◌}
 use mathlib.Core.Bool.{Bool, true, false, false≢true, and-eq-true_iff}
 use mathlib.Core.List.{List, [], ◌∷◌}
-use mathlib.Core.Option.{Option, none, some, none-ne-some, some-injective}
+use Rattle.std.specs.Prelude.{Option, None, Some}
+use Rattle.std.proofs.lemmas.Option.{none-some, same_Some}
 use Prim.Native.Nat.{ℕ, suc, ◌+◌, ◌*◌, ◌^◌, ◌≤◌, ◌<◌}
 use native.Mathlib.Omega.{arith}
 use lib.Dec.{leb, ltb, eqb, lit<}
@@ -78,7 +79,7 @@ sheet-reads = record { from = from; to = to }
         given-some (decode_all body) _ e₁ (λ es q e₂.
         when-some (is_sheet es) _ e₂ (λ g e₃.
         let (a, u) = all_spells.from body es h q in
-        rw (← (some-injective _ _ e₃)) (both a g, rw (eqb-true k 0x30 p, ← u)))))
+        rw (← (same_Some _ _ e₃)) (both a g, rw (eqb-true k 0x30 p, ← u)))))
 
     to : (ds : List Declaration) → well_formed_sheet ds ≡ true → length (encode_sheet ds) < 256 ^ 4 → Written 4 sheet_from (encode_sheet ds) ds
     to ds g f =
@@ -91,21 +92,21 @@ sheet-fits ds g =
     let (a, s) = (and-eq-true_iff (all well_formed ds) _).0 g in
     rw record_size (omega (arith, all_small ds a, leb-true (length ds) most_declarations (left (is_absent (first_repeat [] ds)) s)))
 
-pub sheet-back : (ds : List Declaration) → well_formed_sheet ds ≡ true → decode_sheet (encode_sheet ds) ≡ some ds
+pub sheet-back : (ds : List Declaration) → well_formed_sheet ds ≡ true → decode_sheet (encode_sheet ds) ≡ Some ds
 unfolding decode_sheet
 sheet-back ds g = alone-to 4 sheet_from well_formed_sheet encode_sheet sheet-reads ds g (sheet-fits ds g)
 
 -- T6 for sheets: a sheet record decodes exactly where it is well formed
-pub sheet-exactly : (b : List ℕ) (ds : List Declaration) → Bytes b → (decode_sheet b ≡ some ds) ↔ ((well_formed_sheet ds ≡ true) × (b ≡ encode_sheet ds))
+pub sheet-exactly : (b : List ℕ) (ds : List Declaration) → Bytes b → (decode_sheet b ≡ Some ds) ↔ ((well_formed_sheet ds ≡ true) × (b ≡ encode_sheet ds))
 unfolding decode_sheet
 sheet-exactly b ds h = (alone-from 4 sheet_from well_formed_sheet encode_sheet sheet-reads b ds h, λ p. rw p.1 (sheet-back ds p.0))
 
 -- repeats are told exactly: "same keyword and same canonical text (or a second constructor)"
 pub text_same : (o p : Option (List ℕ)) → (same_text o p ≡ true) ↔ (o ≡ p)
-text_same none none = (λ h. refl, λ q. refl)
-text_same none (some u) = (λ h. absurd (false≢true h), λ q. absurd (none-ne-some u q))
-text_same (some t) none = (λ h. absurd (false≢true h), λ q. absurd (none-ne-some t (sym q)))
-text_same (some t) (some u) = (λ h. ap some ((same_equal t u).0 h), λ q. (same_equal t u).1 (some-injective t u q))
+text_same None None = (λ h. refl, λ q. refl)
+text_same None (Some u) = (λ h. absurd (false≢true h), λ q. absurd (none-some u q))
+text_same (Some t) None = (λ h. absurd (false≢true h), λ q. absurd (none-some t (sym q)))
+text_same (Some t) (Some u) = (λ h. ap Some ((same_equal t u).0 h), λ q. (same_equal t u).1 (same_Some t u q))
 
 pub repeats-same : (d e : Declaration) → (repeats d e ≡ true) ↔ ((keyword_text (keyword_in d) ≡ keyword_text (keyword_in e)) × (canonical_text d ≡ canonical_text e))
 unfolding repeats
@@ -196,8 +197,8 @@ sheeted s u e = go (ltb longest_sheet (length s)) refl e
     count-is (p ∷ ps) = ap suc (count-is ps)
 
     last : (ps : List Placed) → read_lines 1 (lines_of s) ≡ says ps → ltb most_declarations (length ps) ≡ false → (o : Option ℕ) → first_repeat [] (declarations ps) ≡ o → sheet_output s ≡ or_repeat o ps → (or_repeat o ps).output ≡ writes u → Sheeted s u
-    last ps f c (some i) q z g = absurd (refuses-not g)
-    last ps f c none q z g = record {
+    last ps f c (Some i) q z g = absurd (refuses-not g)
+    last ps f c None q z g = record {
       placed = ps;
       reads = f;
       well = both (le-leb (length (declarations ps)) most_declarations (omega (arith, count-is ps, ltb-false most_declarations (length ps) c))) (rw q refl);
@@ -224,7 +225,7 @@ module _ (s u : List ℕ) (e : (sheet_output s).output ≡ writes u) where
   unfolding encode_sheet
   sheet-small = let p = sheeted s u e in rw p.same (rw record_size (omega (arith, lines-small 1 (lines_of s) p.placed p.reads, lines-total s)))
 
-  pub sheet-well-formed : (ds : List Declaration) × (decode_sheet u ≡ some ds)
+  pub sheet-well-formed : (ds : List Declaration) × (decode_sheet u ≡ Some ds)
   unfolding well_formed_sheet
   sheet-well-formed = let p = sheeted s u e in
       (declarations p.placed, ap decode_sheet p.same ∙ sheet-back (declarations p.placed) (both (lines-well-formed 1 (lines_of s) p.placed p.reads) p.well))

@@ -3,7 +3,7 @@
 use mathlib.Core.Path.{◌≡◌, refl, sym, ◌∙◌, ap, subst}
 use mathlib.Core.Bool.{Bool, true, false, cond}
 use mathlib.Core.List.{List, [], ◌∷◌}
-use mathlib.Core.Option.{Option, none, some}
+use Rattle.std.specs.Prelude.{Option, None, Some}
 use Prim.Native.Nat.{ℕ, zero, suc, ◌+◌, ◌*◌, ◌≤◌, ◌<◌, zero-le}
 use native.Mathlib.Omega.{arith}
 use lib.Dec.{leb, ltb, eqb}
@@ -105,7 +105,7 @@ module _ (s : List ℕ) where
 
 -- what is known of a declaration that a call accepts
 pub record Accepts (c : Call) (s : List ℕ) (d : Declaration) (n : ℕ) : Type 0 where
-  pub wants : wanted c s ≡ some (keyword_in d)
+  pub wants : wanted c s ≡ Some (keyword_in d)
   pub opening : word s 0 ≡ keyword_text (keyword_in d)
   pub valid : is_declaration d ≡ true
   pub paid : length (encode 4 d) ≤ 10 * n
@@ -117,10 +117,10 @@ unfolding parse read_declaration
 parse-of c s = admit-of s (read_declaration c) (λ l. go l (wanted c s) refl)
   where
     go : length s ≤ longest_text → (o : Option Keyword) → wanted c s ≡ o → Of s (Accepts c s) (read_by o s)
-    go l none e = refuses-at zero-le
-    go l (some k) e =
+    go l None e = refuses-at zero-le
+    go l (Some k) e =
         as_of (exec_of s k) (λ d n q. record {
-          wants = e ∙ ap some (sym q.holds.sort);
+          wants = e ∙ ap Some (sym q.holds.sort);
           opening = q.holds.opening ∙ ap keyword_text (sym q.holds.sort);
           valid = q.holds.valid;
           paid = omega arith;
@@ -149,11 +149,11 @@ pub deep-within : (c : Call) (s : List ℕ) (p : ℕ) → parse c s ≡ deep p �
 deep-within c s = is-deep (parse-of c s)
 
 -- a call accepts declarations of the keyword that it wants
-pub read-keyword : (c : Call) (s : List ℕ) (k : Keyword) (d : Declaration) (n : ℕ) → wanted c s ≡ some k → parse c s ≡ got d n → keyword_in d ≡ k
+pub read-keyword : (c : Call) (s : List ℕ) (k : Keyword) (d : Declaration) (n : ℕ) → wanted c s ≡ Some k → parse c s ≡ got d n → keyword_in d ≡ k
 read-keyword c s k d n w e = cc (accepts c s d n e).wants
 
 -- a keyword by its text
-keyword-back : (k : Keyword) → opening_of keywords (keyword_text k) ≡ some k
+keyword-back : (k : Keyword) → opening_of keywords (keyword_text k) ≡ Some k
 unfolding keyword_text
 keyword-back key.Function = refl
 keyword-back key.Constructor = refl
@@ -170,7 +170,7 @@ pub calls_agree : (b c : Call) (s : List ℕ) (d e : Declaration) (n m : ℕ) �
 calls_agree b c s d e n m p q =
     let x = accepts b s d n p in
     let y = accepts c s e m q in
-    let k : some (keyword_in d) ≡ some (keyword_in e) = sym (keyword-back (keyword_in d)) ∙ ap (opening_of keywords) (sym x.opening ∙ y.opening) ∙ keyword-back (keyword_in e) in
+    let k : Some (keyword_in d) ≡ Some (keyword_in e) = sym (keyword-back (keyword_in d)) ∙ ap (opening_of keywords) (sym x.opening ∙ y.opening) ∙ keyword-back (keyword_in e) in
     let r : parse b s ≡ parse c s = same-wanted b c s (x.wants ∙ k ∙ sym y.wants) in
     (cc, cc)
 
@@ -188,8 +188,8 @@ crowded-within [] l p = tt
 crowded-within (c ∷ t) l p = go l (eqb c lparen) (eqb c rparen) (λ k. further (crowded k (suc p) t) (crowded-within t k (suc p)))
   where
     further : (o : Option ℕ) → In (λ q. q < suc p + length t) o → In (λ q. q < p + suc (length t)) o
-    further none i = tt
-    further (some q) i = omega arith
+    further None i = tt
+    further (Some q) i = omega arith
 
     go : (l : ℕ) (a b : Bool) → ((k : ℕ) → In (λ q. q < p + suc (length t)) (crowded k (suc p) t))
         → In (λ q. q < p + suc (length t)) (cond a (open_by l p (λ k. crowded k (suc p) t)) (cond b (crowded (suc l) (suc p) t) (crowded l (suc p) t)))
@@ -209,8 +209,8 @@ tuple-of s l = go (crowded deepest 0 s) (crowded-within s deepest 0)
     whole (deep p) q = refuses-at zero-le
 
     go : (o : Option ℕ) → In (λ p. p < 0 + length s) o → Of s (AcceptsKind s) (tuple_by s o)
-    go (some p) i = opens {p = p} (omega (arith, i))
-    go none i = tested (Of s (AcceptsKind s)) (is_bare false s) (λ _. whole (field_by Plain (tuple_kind deepest) s 0) (field-of s Plain (tuple_kind deepest) deepest 0 (tuple-kind-of s deepest) zero-le)) (λ _. refuses-at zero-le)
+    go (Some p) i = opens {p = p} (omega (arith, i))
+    go None i = tested (Of s (AcceptsKind s)) (is_bare false s) (λ _. whole (field_by Plain (tuple_kind deepest) s 0) (field-of s Plain (tuple_kind deepest) deepest 0 (tuple-kind-of s deepest) zero-le)) (λ _. refuses-at zero-le)
 
 kind-of : (s : List ℕ) → Of s (AcceptsKind s) (admit read_kind s)
 unfolding read_kind is_field is_mark marks is_base encode_base

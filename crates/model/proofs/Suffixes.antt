@@ -3,7 +3,7 @@
 use mathlib.Core.Path.{◌≡◌, refl, sym, ◌∙◌, ap}
 use mathlib.Core.Bool.{Bool, true, false}
 use mathlib.Core.List.{List, [], ◌∷◌, ◌++◌}
-use mathlib.Core.Option.{Option, none, some}
+use Rattle.std.specs.Prelude.{Option, None, Some}
 use Prim.Native.Nat.{ℕ, zero, suc, ◌<◌}
 use native.Mathlib.Omega.{arith}
 use lib.Dec.{eqb}
@@ -44,57 +44,57 @@ cut-whole d (c ∷ t) a b e = go (eqb d c) refl (cut_last d t) refl (λ x y q. c
     go false p uncut q ih = let f : uncut ≡ cut a b = rw (q, p) at e in cc
 
 -- the last byte of a text
-pub strip-same : (d : ℕ) (m : List ℕ) → strip d (m ++ (d ∷ [])) ≡ some m
+pub strip-same : (d : ℕ) (m : List ℕ) → strip d (m ++ (d ∷ [])) ≡ Some m
 unfolding strip
 strip-same d [] = rw (strip_step, eq-eqb d d refl)
 strip-same d (c ∷ m) = go m (strip-same d m)
   where
-    go : (u : List ℕ) → strip d (u ++ (d ∷ [])) ≡ some u → strip d (c ∷ (u ++ (d ∷ []))) ≡ some (c ∷ u)
+    go : (u : List ℕ) → strip d (u ++ (d ∷ [])) ≡ Some u → strip d (c ∷ (u ++ (d ∷ []))) ≡ Some (c ∷ u)
     go [] e = rw e
     go (b ∷ u) e = rw e
 
-pub strip-other : (d c : ℕ) (m : List ℕ) → (d ≡ c → ⊥) → strip d (m ++ (c ∷ [])) ≡ none
+pub strip-other : (d c : ℕ) (m : List ℕ) → (d ≡ c → ⊥) → strip d (m ++ (c ∷ [])) ≡ None
 unfolding strip
 strip-other d c [] n = rw (strip_step, ne_eqb d c n)
 strip-other d c (b ∷ m) n = go m (strip-other d c m n)
   where
-    go : (u : List ℕ) → strip d (u ++ (c ∷ [])) ≡ none → strip d (b ∷ (u ++ (c ∷ []))) ≡ none
+    go : (u : List ℕ) → strip d (u ++ (c ∷ [])) ≡ None → strip d (b ∷ (u ++ (c ∷ []))) ≡ None
     go [] e = rw e
     go (x ∷ u) e = rw e
 
 -- a text that ends in some byte is something and that byte
-strip-whole : (d : ℕ) (t m : List ℕ) → strip d t ≡ some m → t ≡ m ++ (d ∷ [])
+strip-whole : (d : ℕ) (t m : List ℕ) → strip d t ≡ Some m → t ≡ m ++ (d ∷ [])
 unfolding strip
 strip-whole d [] m e = cc
 strip-whole d (c ∷ t) m e = go t (strip d t) refl e (λ n q. strip-whole d t n q)
   where
-    go : (u : List ℕ) (r : Option (List ℕ)) → strip d u ≡ r → strip_step d c u (strip d u) ≡ some m → ((n : List ℕ) → strip d u ≡ some n → u ≡ n ++ (d ∷ [])) → c ∷ u ≡ m ++ (d ∷ [])
+    go : (u : List ℕ) (r : Option (List ℕ)) → strip d u ≡ r → strip_step d c u (strip d u) ≡ Some m → ((n : List ℕ) → strip d u ≡ Some n → u ≡ n ++ (d ∷ [])) → c ∷ u ≡ m ++ (d ∷ [])
     go [] r q f ih = last (eqb d c) refl
       where
         last : (b : Bool) → eqb d c ≡ b → c ∷ [] ≡ m ++ (d ∷ [])
-        last true p = let g : some [] ≡ some m = rw (strip_step, p) at f in let h : [] ≡ m = cc in rw (← h) (ap (◌∷ []) (sym (eqb-true d c p)))
-        last false p = let g : none ≡ some m = rw (strip_step, p) at f in cc
-    go (b ∷ u) none q f ih = let g : none ≡ some m = rw q at f in cc
-    go (b ∷ u) (some n) q f ih = let g : some (c ∷ n) ≡ some m = rw q at f in let h : c ∷ n ≡ m = cc in rw (← h) (ap (c ∷◌) (ih n q))
+        last true p = let g : Some [] ≡ Some m = rw (strip_step, p) at f in let h : [] ≡ m = cc in rw (← h) (ap (◌∷ []) (sym (eqb-true d c p)))
+        last false p = let g : None ≡ Some m = rw (strip_step, p) at f in cc
+    go (b ∷ u) None q f ih = let g : None ≡ Some m = rw q at f in cc
+    go (b ∷ u) (Some n) q f ih = let g : Some (c ∷ n) ≡ Some m = rw q at f in let h : c ∷ n ≡ m = cc in rw (← h) (ap (c ∷◌) (ih n q))
 
 -- a text with a suffix: the rest, and what stands in the brackets
-pub peel-split : (t a : List ℕ) (o : Suffix) → peel t ≡ peeled a o → (m : List ℕ) × (t ≡ a ++ lbracket ∷ (m ++ (rbracket ∷ []))) × (inside m ≡ some o)
+pub peel-split : (t a : List ℕ) (o : Suffix) → peel t ≡ peeled a o → (m : List ℕ) × (t ≡ a ++ lbracket ∷ (m ++ (rbracket ∷ []))) × (inside m ≡ Some o)
 unfolding peel
 peel-split t a o e = go (cut_last lbracket t) refl e
   where
     within : (x b : List ℕ) → cut_last lbracket t ≡ cut x b → (r : Option (List ℕ)) → strip rbracket b ≡ r → peel_by x (shut r) ≡ peeled a o
-        → (m : List ℕ) × (t ≡ a ++ lbracket ∷ (m ++ (rbracket ∷ []))) × (inside m ≡ some o)
-    within x b q none s f = let z : ◌≡◌ {A = ℕ} 0 1 = cc in absurd (omega arith)
-    within x b q (some m) s f = by (inside m) refl f
+        → (m : List ℕ) × (t ≡ a ++ lbracket ∷ (m ++ (rbracket ∷ []))) × (inside m ≡ Some o)
+    within x b q None s f = let z : ◌≡◌ {A = ℕ} 0 1 = cc in absurd (omega arith)
+    within x b q (Some m) s f = by (inside m) refl f
       where
-        by : (i : Option Suffix) → inside m ≡ i → peel_by x i ≡ peeled a o → (n : List ℕ) × (t ≡ a ++ lbracket ∷ (n ++ (rbracket ∷ []))) × (inside n ≡ some o)
-        by none j g = let z : ◌≡◌ {A = ℕ} 0 1 = cc in absurd (omega arith)
-        by (some p) j g =
+        by : (i : Option Suffix) → inside m ≡ i → peel_by x i ≡ peeled a o → (n : List ℕ) × (t ≡ a ++ lbracket ∷ (n ++ (rbracket ∷ []))) × (inside n ≡ Some o)
+        by None j g = let z : ◌≡◌ {A = ℕ} 0 1 = cc in absurd (omega arith)
+        by (Some p) j g =
             let k : x ≡ a = cc in
             let l : p ≡ o = cc in
             (m, cut-whole lbracket t x b q ∙ rw (k, strip-whole rbracket b m s), rw l at j)
 
-    go : (r : Cut) → cut_last lbracket t ≡ r → peel_at (cut_last lbracket t) ≡ peeled a o → (m : List ℕ) × (t ≡ a ++ lbracket ∷ (m ++ (rbracket ∷ []))) × (inside m ≡ some o)
+    go : (r : Cut) → cut_last lbracket t ≡ r → peel_at (cut_last lbracket t) ≡ peeled a o → (m : List ℕ) × (t ≡ a ++ lbracket ∷ (m ++ (rbracket ∷ []))) × (inside m ≡ Some o)
     go uncut q f = let z : bare ≡ peeled a o = rw q at f in let y : ◌≡◌ {A = ℕ} 0 1 = cc in absurd (omega arith)
     go (cut x b) q f = within x b q (strip rbracket b) refl (rw q at f)
 
@@ -106,15 +106,15 @@ abbrev AllBare : List (Entry Elementary) → Type 0
 AllBare [] = Unit {0}
 AllBare (x ∷ es) = Bare x × AllBare es
 
-lookup-bare : (es : List (Entry Elementary)) → AllBare es → (t : List ℕ) (e : Elementary) → lookup es t ≡ some e → peel t ≡ bare
+lookup-bare : (es : List (Entry Elementary)) → AllBare es → (t : List ℕ) (e : Elementary) → lookup es t ≡ Some e → peel t ≡ bare
 lookup-bare [] h t e q = cc
 lookup-bare (entry w f ∷ es) h t e q = go (same w t) refl (λ p. lookup-bare es h.1 t e p)
   where
-    go : (b : Bool) → same w t ≡ b → (lookup es t ≡ some e → peel t ≡ bare) → peel t ≡ bare
+    go : (b : Bool) → same w t ≡ b → (lookup es t ≡ Some e → peel t ≡ bare) → peel t ≡ bare
     go true s ih = rw (sym ((same_equal w t).0 s)) h.0
     go false s ih = ih (rw (lookup, s) at q)
 
-words-bare : (t : List ℕ) (e : Elementary) → lookup kind_words t ≡ some e → peel t ≡ bare
+words-bare : (t : List ℕ) (e : Elementary) → lookup kind_words t ≡ Some e → peel t ≡ bare
 unfolding peel cut_last
 words-bare t e q = lookup-bare kind_words (refl, (refl, (refl, (refl, (refl, (refl, (refl, tt))))))) t e q
 
@@ -124,16 +124,16 @@ module _ (inner : List ℕ → Result Spelled) (t : List ℕ) where
   step-peeled a o e = go (lookup kind_words t) refl
     where
       go : (l : Option Elementary) → lookup kind_words t ≡ l → from_str_by inner t l (peel t) ≡ on_result (add_suffix o) (inner a)
-      go none q = rw e
-      go (some x) q = let z : peeled a o ≡ bare = sym e ∙ words-bare t x q in let y : ◌≡◌ {A = ℕ} 0 1 = cc in absurd (omega arith)
+      go None q = rw e
+      go (Some x) q = let z : peeled a o ≡ bare = sym e ∙ words-bare t x q in let y : ◌≡◌ {A = ℕ} 0 1 = cc in absurd (omega arith)
 
   step-bare : peel t ≡ bare → from_str_by inner t (lookup kind_words t) (peel t) ≡ on_result unsuffixed (elementary_of t)
   unfolding elementary_of
   step-bare e = go (lookup kind_words t)
     where
       go : (l : Option Elementary) → from_str_by inner t l (peel t) ≡ on_result unsuffixed (or_number t l)
-      go none = rw e
-      go (some x) = refl
+      go None = rw e
+      go (Some x) = refl
 
 -- any fuel that suffices gives the same
 same-fuel : (j k : ℕ) (t : List ℕ) → length t < j → length t < k → from_str_in j t ≡ from_str_in k t

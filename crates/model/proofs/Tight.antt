@@ -5,7 +5,8 @@ use mathlib.Core.Path.{◌≡◌, refl, sym, ◌∙◌, ap}
 use mathlib.Core.Logic.{◌↔◌}
 use mathlib.Core.Bool.{true}
 use mathlib.Core.List.{List}
-use mathlib.Core.Option.{Option, none, some, none-ne-some, some-injective}
+use Rattle.std.specs.Prelude.{Option, None, Some}
+use Rattle.std.proofs.lemmas.Option.{none-some, same_Some}
 use Prim.Native.Nat.{ℕ, ◌+◌, ◌*◌, ◌^◌, ◌≤◌, ◌<◌}
 use native.Mathlib.Omega.{arith}
 use lib.Dec.{leb}
@@ -39,31 +40,31 @@ pub tight-fits : (d : Declaration) → well_formed d ≡ true → length (encode
 tight-fits d g = omega (arith, (formed d g).1, tight-length d)
 
 -- the tight record of a well-formed declaration, and no other bytes
-pub tight-exactly : (b : List ℕ) (d : Declaration) → Bytes b → (decode_tight b ≡ some d) ↔ ((well_formed d ≡ true) × (b ≡ encode 2 d))
+pub tight-exactly : (b : List ℕ) (d : Declaration) → Bytes b → (decode_tight b ≡ Some d) ↔ ((well_formed d ≡ true) × (b ≡ encode 2 d))
 unfolding decode_tight well_formed
 tight-exactly b d h = (from, to)
   where
-    from : decode_tight b ≡ some d → (well_formed d ≡ true) × (b ≡ encode 2 d)
+    from : decode_tight b ≡ Some d → (well_formed d ≡ true) × (b ≡ encode 2 d)
     from e =
         given-some _ _ e (λ x p q.
         when-some _ _ q (λ l r.
         let (g, u) = alone-from 2 (decode_declaration 2) is_declaration (encode 2) (declaration-reads 2) b x h p in
-        rw (← (some-injective x d r)) (both g l, u)))
+        rw (← (same_Some x d r)) (both g l, u)))
 
-    to : (well_formed d ≡ true) × (b ≡ encode 2 d) → decode_tight b ≡ some d
+    to : (well_formed d ≡ true) × (b ≡ encode 2 d) → decode_tight b ≡ Some d
     to (g, u) =
         let l : leb (length (encode 4 d)) longest_record ≡ true = right (is_declaration d) g in
         rw (u, alone-to 2 (decode_declaration 2) is_declaration (encode 2) (declaration-reads 2) d (left _ g) (tight-fits d g), l)
 
 -- its records, with lengths of any width
-pub nodes_of : (w : ℕ) (d : Declaration) → well_formed d ≡ true → length (encode w d) < 256 ^ w → nodes_from w deepest_record (encode w d) ≡ some (sole d)
+pub nodes_of : (w : ℕ) (d : Declaration) → well_formed d ≡ true → length (encode w d) < 256 ^ w → nodes_from w deepest_record (encode w d) ≡ Some (sole d)
 nodes_of w d g l = rw (sole-laid w d) ((nodes_spell w deepest_record).to (sole d) (declaration_nodes d (formed d g).0) (rw (sole-laid w d) at l))
 
 wide_fits : (d : Declaration) → well_formed d ≡ true → length (encode 4 d) < 256 ^ 4
 wide_fits d g = omega (arith, (formed d g).1)
 
 -- the old record of a declaration with shorter lengths is its tight record
-pub record_relaid : (b : List ℕ) (d : Declaration) → Bytes b → decode b ≡ some d → relaid 4 2 deepest_record b ≡ some (encode 2 d)
+pub record_relaid : (b : List ℕ) (d : Declaration) → Bytes b → decode b ≡ Some d → relaid 4 2 deepest_record b ≡ Some (encode 2 d)
 unfolding relaid
 record_relaid b d h e =
     let (g, u) = (decode-exactly b d h).0 e in
@@ -74,42 +75,42 @@ pub tight-relaid : (b : List ℕ) → Bytes b → decode_tight b ≡ given (rela
 unfolding relaid
 tight-relaid b h = go (nodes_from 2 deepest_record b) refl (decode_tight b) refl
   where
-    there : (d : Declaration) → decode_tight b ≡ some d → nodes_from 2 deepest_record b ≡ some (sole d)
+    there : (d : Declaration) → decode_tight b ≡ Some d → nodes_from 2 deepest_record b ≡ Some (sole d)
     there d e = let (g, u) = (tight-exactly b d h).0 e in rw u (nodes_of 2 d g (tight-fits d g))
 
-    forth : (ns : Nodes) → nodes_from 2 deepest_record b ≡ some ns → (d : Declaration) → decode_tight b ≡ some d → decode (laid_all 4 ns) ≡ some d
+    forth : (ns : Nodes) → nodes_from 2 deepest_record b ≡ Some ns → (d : Declaration) → decode_tight b ≡ Some d → decode (laid_all 4 ns) ≡ Some d
     forth ns e d f =
         let (g, u) = (tight-exactly b d h).0 f in
-        let same : ns ≡ sole d = some-injective _ _ (sym e ∙ there d f) in
+        let same : ns ≡ sole d = same_Some _ _ (sym e ∙ there d f) in
         rw (same, ← (sole-laid 4 d)) ((decode-exactly (encode 4 d) d (encode-bytes d g)).1 (g, refl))
 
-    back : (ns : Nodes) → nodes_from 2 deepest_record b ≡ some ns → (d : Declaration) → decode (laid_all 4 ns) ≡ some d → decode_tight b ≡ some d
+    back : (ns : Nodes) → nodes_from 2 deepest_record b ≡ Some ns → (d : Declaration) → decode (laid_all 4 ns) ≡ Some d → decode_tight b ≡ Some d
     back ns e d f =
         let (good, u) = (nodes_spell 2 deepest_record).from b ns h e in
         let (g, v) = (decode-exactly (laid_all 4 ns) d (nodes_bytes 2 4 ns (rw u at h))).0 f in
         let one = (nodes_spell 4 deepest_record).to ns good (rw v (wide_fits d g)) in
-        let same : ns ≡ sole d = some-injective _ _ (sym one ∙ ap (nodes_from 4 deepest_record) v ∙ nodes_of 4 d g (wide_fits d g)) in
+        let same : ns ≡ sole d = same_Some _ _ (sym one ∙ ap (nodes_from 4 deepest_record) v ∙ nodes_of 4 d g (wide_fits d g)) in
         (tight-exactly b d h).1 (g, u ∙ ap (laid_all 2) same ∙ sym (sole-laid 2 d))
 
-    last : (ns : Nodes) → nodes_from 2 deepest_record b ≡ some ns → (o p : Option Declaration) → decode_tight b ≡ o → decode (laid_all 4 ns) ≡ p → decode_tight b ≡ decode (laid_all 4 ns)
-    last ns e none none x y = x ∙ sym y
-    last ns e (some d) p x y = x ∙ sym (forth ns e d x)
-    last ns e none (some d) x y = back ns e d y ∙ sym y
+    last : (ns : Nodes) → nodes_from 2 deepest_record b ≡ Some ns → (o p : Option Declaration) → decode_tight b ≡ o → decode (laid_all 4 ns) ≡ p → decode_tight b ≡ decode (laid_all 4 ns)
+    last ns e None None x y = x ∙ sym y
+    last ns e (Some d) p x y = x ∙ sym (forth ns e d x)
+    last ns e None (Some d) x y = back ns e d y ∙ sym y
 
     go : (o : Option Nodes) → nodes_from 2 deepest_record b ≡ o → (p : Option Declaration) → decode_tight b ≡ p → decode_tight b ≡ given (on_option (laid_all 4) o) decode
-    go none e none x = x
-    go none e (some d) x = absurd (none-ne-some (sole d) (sym e ∙ there d x))
-    go (some ns) e p x = last ns e (decode_tight b) (decode (laid_all 4 ns)) refl refl
+    go None e None x = x
+    go None e (Some d) x = absurd (none-some (sole d) (sym e ∙ there d x))
+    go (Some ns) e p x = last ns e (decode_tight b) (decode (laid_all 4 ns)) refl refl
 
 -- longer lengths make no bytes half as long again
-pub relaid-small : (d : ℕ) (b u : List ℕ) → Bytes b → relaid 2 4 d b ≡ some u → 2 * length u ≤ 3 * length b
+pub relaid-small : (d : ℕ) (b u : List ℕ) → Bytes b → relaid 2 4 d b ≡ Some u → 2 * length u ≤ 3 * length b
 unfolding relaid
 relaid-small d b u h e =
     on_some (laid_all 4) (nodes_from 2 d b) e (λ ns p q.
     let (good, v) = (nodes_spell 2 d).from b ns h p in
     rw (← q, v) (omega (arith, all-wider ns, all-heads-few ns)))
 
-pub relaid-bytes : (d : ℕ) (b u : List ℕ) → Bytes b → relaid 2 4 d b ≡ some u → Bytes u
+pub relaid-bytes : (d : ℕ) (b u : List ℕ) → Bytes b → relaid 2 4 d b ≡ Some u → Bytes u
 unfolding relaid
 relaid-bytes d b u h e =
     on_some (laid_all 4) (nodes_from 2 d b) e (λ ns p q.
@@ -117,7 +118,7 @@ relaid-bytes d b u h e =
     rw (← q) (nodes_bytes 2 4 ns (rw v at h)))
 
 -- what does not fit 40,960 bytes is no declaration's record
-pub decode-long : (b : List ℕ) → longest_record < length b → decode b ≡ none
+pub decode-long : (b : List ℕ) → longest_record < length b → decode b ≡ None
 unfolding decode
 decode-long b h = rw (lt-leb (length b) longest_record h)
 
@@ -141,9 +142,9 @@ pub record OneSaid (b t : List ℕ) : Type 0 where
   pub old : b ≡ encode 4 declaration
   pub tight : t ≡ encode 2 declaration
 
-tight-said : (o : Option Declaration) (f : Declaration → Output) (u : List ℕ) → of_tight o f ≡ writes u → (d : Declaration) × (o ≡ some d) × (f d ≡ writes u)
-tight-said none f u e = absurd (refuses-not e)
-tight-said (some d) f u e = (d, refl, e)
+tight-said : (o : Option Declaration) (f : Declaration → Output) (u : List ℕ) → of_tight o f ≡ writes u → (d : Declaration) × (o ≡ Some d) × (f d ≡ writes u)
+tight-said None f u e = absurd (refuses-not e)
+tight-said (Some d) f u e = (d, refl, e)
 
 pub said-narrowed : (b t : List ℕ) → Bytes b → tight_output b ≡ writes t → OneSaid b t
 unfolding tight_output
@@ -171,8 +172,8 @@ module _ (b t : List ℕ) (s : OneSaid b t) where
   pub tight-same : (f : Declaration → Output) → of_tight (decode_tight t) f ≡ of_record (decode b) f
   tight-same f =
       let d : Declaration = s.declaration in
-      let x : decode_tight t ≡ some d = rw s.tight ((tight-exactly (encode 2 d) d (tight-bytes d s.well)).1 (s.well, refl)) in
-      let y : decode b ≡ some d = rw s.old ((decode-exactly (encode 4 d) d (encode-bytes d s.well)).1 (s.well, refl)) in
+      let x : decode_tight t ≡ Some d = rw s.tight ((tight-exactly (encode 2 d) d (tight-bytes d s.well)).1 (s.well, refl)) in
+      let y : decode b ≡ Some d = rw s.old ((decode-exactly (encode 4 d) d (encode-bytes d s.well)).1 (s.well, refl)) in
       rw (x, y)
 
   -- "canonical, signature and full text from a tight record equal those from its old form"

@@ -3,7 +3,8 @@
 use mathlib.Core.Path.{◌≡◌, refl, sym, ◌∙◌}
 use mathlib.Core.Bool.{Bool, true, false, ◌&&◌, false≢true}
 use mathlib.Core.List.{List, ◌++◌, append-nil}
-use mathlib.Core.Option.{Option, none, some, none-ne-some, some-injective}
+use Rattle.std.specs.Prelude.{Option, None, Some}
+use Rattle.std.proofs.lemmas.Option.{none-some, same_Some}
 use Prim.Native.Nat.{ℕ, zero, suc, ◌+◌, ◌*◌, ◌^◌, ◌≤◌, ◌<◌}
 use native.Mathlib.Omega.{arith}
 use lib.Dec.{leb, ltb, eqb}
@@ -23,8 +24,8 @@ is_none no_node = true
 is_none (more_nodes n ns) = false
 
 abbrev is_node_by : Bool → Option ℕ → List ℕ → Nodes → Bool
-is_node_by inner none p ns = is_none ns
-is_node_by inner (some m) p ns = eqb (length p) m && inner
+is_node_by inner None p ns = is_none ns
+is_node_by inner (Some m) p ns = eqb (length p) m && inner
 
 unfoldable mutual
   pub is_node : Node → ℕ → Bool
@@ -43,9 +44,9 @@ module _ (w : ℕ) where
     unfolding node_from is_node laid laid_all
     node-from k body a h e = when-some (ltb k 65536) _ e (λ small f. go (front_length k) refl small f)
       where
-        go : (o : Option ℕ) → front_length k ≡ o → ltb k 65536 ≡ true → node_by w N k body o ≡ some a → (is_node a d ≡ true) × (laid w a ≡ record_of w k body)
-        go none q small f = rw (← (some-injective _ _ f), is_node, q, small) (refl, rw append-nil)
-        go (some m) q small f =
+        go : (o : Option ℕ) → front_length k ≡ o → ltb k 65536 ≡ true → node_by w N k body o ≡ Some a → (is_node a d ≡ true) × (laid w a ≡ record_of w k body)
+        go None q small f = rw (← (same_Some _ _ f), is_node, q, small) (refl, rw append-nil)
+        go (Some m) q small f =
             when-some (leb m (length body)) _ f (λ l g.
             on_some (node k (take m body)) (N (drop m body)) g (λ ns p same.
             let (good, there) = S.from (drop m body) ns (bytes_drop m body h) p in
@@ -57,16 +58,16 @@ module _ (w : ℕ) where
         let small : ltb k 65536 ≡ true = left _ g in
         (k, p ++ laid_all w ns, ltb-true _ _ small, refl, rw (node_from, small) (go (front_length k) refl (right (ltb k 65536) g)))
       where
-        none_is : (ms : Nodes) → is_none ms ≡ true → some (node k (p ++ laid_all w ms) no_node) ≡ some (node k p ms)
+        none_is : (ms : Nodes) → is_none ms ≡ true → Some (node k (p ++ laid_all w ms) no_node) ≡ Some (node k p ms)
         none_is no_node h = rw append-nil
         none_is (more_nodes m ms) h = absurd (false≢true h)
 
-        go : (o : Option ℕ) → front_length k ≡ o → is_node_by (are_nodes ns d) o p ns ≡ true → node_by w N k (p ++ laid_all w ns) o ≡ some (node k p ns)
-        go none q h = none_is ns h
-        go (some m) q h =
+        go : (o : Option ℕ) → front_length k ≡ o → is_node_by (are_nodes ns d) o p ns ≡ true → node_by w N k (p ++ laid_all w ns) o ≡ Some (node k p ns)
+        go None q h = none_is ns h
+        go (Some m) q h =
             let long : length p ≡ m = eqb-true _ _ (left _ h) in
             let fits : leb m (length (p ++ laid_all w ns)) ≡ true = le-leb m (length (p ++ laid_all w ns)) (omega (arith, length-append p (laid_all w ns))) in
-            let inner : N (laid_all w ns) ≡ some ns = S.to ns (right (eqb (length p) m) h) (omega (arith, record_length w k (p ++ laid_all w ns), length-append p (laid_all w ns))) in
+            let inner : N (laid_all w ns) ≡ Some ns = S.to ns (right (eqb (length p) m) h) (omega (arith, record_length w k (p ++ laid_all w ns), length-append p (laid_all w ns))) in
             rw (node_by, fits, take_at p (laid_all w ns) m long, drop_at p (laid_all w ns) m long, inner)
 
     node-reads : Reads w (node_from w N) (λ n. is_node n d) (laid w)
@@ -87,7 +88,7 @@ module _ (w : ℕ) where
 
   pub nodes_spell : (d : ℕ) → Spells w (nodes_from w d) (λ ns. are_nodes ns d) (laid_all w)
   unfolding nodes_from
-  nodes_spell zero = record { from = λ b ns h e. absurd (none-ne-some ns e); to = λ ns g l. absurd (false≢true (sym (nothing-deep ns) ∙ g)) }
+  nodes_spell zero = record { from = λ b ns h e. absurd (none-some ns e); to = λ ns g l. absurd (false≢true (sym (nothing-deep ns) ∙ g)) }
   nodes_spell (suc d) =
       each_spells w no_node more_nodes (node_from w (nodes_from w d)) (λ n. is_node n d) (laid w) (λ ns. are_nodes ns (suc d)) (laid_all w) (node_lists d)
       (node-reads (nodes_from w d) d (nodes_spell d))

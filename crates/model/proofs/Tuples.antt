@@ -3,7 +3,7 @@
 use mathlib.Core.Path.{◌≡◌, refl, sym, ◌∙◌, ap}
 use mathlib.Core.Bool.{Bool, true, false, ◌&&◌, not, and-false, false≢true}
 use mathlib.Core.List.{List, [], ◌∷◌, ◌++◌, append_assoc, append-nil}
-use mathlib.Core.Option.{none}
+use Rattle.std.specs.Prelude.{None}
 use Prim.Native.Nat.{ℕ, zero, suc, ◌+◌, ◌≤◌, ◌<◌}
 use native.Mathlib.Omega.{arith}
 use lib.Dec.{eqb}
@@ -117,7 +117,7 @@ mutual
 
 -- Both, of a whole text.
 
-pub uncrowded : (k : Kind) (t : List ℕ) → SpellsKind k t → fits deepest k ≡ true → crowded deepest 0 t ≡ none
+pub uncrowded : (k : Kind) (t : List ℕ) → SpellsKind k t → fits deepest k ≡ true → crowded deepest 0 t ≡ None
 unfolding crowded
 uncrowded k t w f = ap (crowded deepest 0) (sym (append-nil t)) ∙ crowded-kind k t w deepest f deepest 0 [] (omega arith)
 

@@ -3,7 +3,7 @@
 use mathlib.Core.Path.{◌≡◌, refl}
 use mathlib.Core.Bool.{Bool, true, false}
 use mathlib.Core.List.{List, [], ◌∷◌, ◌++◌}
-use mathlib.Core.Option.{some}
+use Rattle.std.specs.Prelude.{Some}
 use Prim.Native.Nat.{ℕ}
 use Prim.Native.String.{String}
 use Rattle.kinds.specs.Bytes.{ascii}
@@ -38,7 +38,7 @@ record_written : read_output call.General (ascii "function f(uint a)") ≡ write
 unfolding evaluation
 record_written = refl
 
-record_read : decode worked ≡ some (Declaration.function 2 (ascii "f") (more_fields (field 0 (ascii "a") (elementary (uint (bits 256))) []) no_field) no_field)
+record_read : decode worked ≡ Some (Declaration.function 2 (ascii "f") (more_fields (field 0 (ascii "a") (elementary (uint (bits 256))) []) no_field) no_field)
 unfolding evaluation
 record_read = refl
 

@@ -1,10 +1,9 @@
 -- Answers: what a call says and leaves, from what it has to write and the room that it is lent.
 -- Assumes nothing.
-use Rattle.std.specs.Prelude.{true, false, List, [], ◌++◌, ℕ, ltb, length, drop}
+use Rattle.std.specs.Prelude.{true, false, List, [], ◌++◌, ℕ, ltb, length, drop, Result, Ok, Err}
 use Rattle.model.specs.declared.Refusal.{Refusal}
 use Rattle.model.specs.declared.Refusal.TheVariants.{Eos, ExpectOpen, ExpectClose, ExpectDeclaration, ExpectKeyword, ExpectIdentifier, ExpectEnd, TooLong, NotUtf8, TooDeep, InvalidBitWidth, InvalidByteLength, Unknown, NotWellFormed, WrongSort, NoRoom, SheetTooLong, TooManyDeclarations, Repeated, CallTooLong, NotAnEncoding, NoSuchFunction, SheetChanged, NotTight, NoSuchSample}
-use Rattle.model.specs.declared.Answer.{Answer}
-use Rattle.model.specs.declared.Answer.TheVariants.{Accepted, Refused}
+use Rattle.model.specs.declared.Refused.{Refused}
 
 -- the numbers of documents 01 and 02
 unfoldable pub number : Refusal → ℕ
@@ -39,10 +38,24 @@ pub data Outcome : Type 0 where
   accepted : ℕ → Outcome
   refused : ℕ → ℕ → Outcome
 
+-- what a call answers: the length of what it wrote, or why it refuses and where
+abbrev pub Answer : Type 0
+Answer = Result ℕ Refused
+
+abbrev pub refusal_at : Refusal → ℕ → Refused
+refusal_at w p = record { refusal = w; position = p }
+
+-- a refusal that stands at the start
+abbrev pub at_start : Refusal → Refused
+at_start w = refusal_at w 0
+
+abbrev pub refusing : Refusal → ℕ → Answer
+refusing w p = Err (refusal_at w p)
+
 -- what the cases of an answer say
 unfoldable pub said : Answer → Outcome
-said (Accepted n) = accepted n
-said (Refused w p) = refused (number w) p
+said (Ok n) = accepted n
+said (Err r) = refused (number r.refusal) r.position
 
 -- what a call would write if it were lent enough, or why and where it refuses in any case
 pub data Output : Type 0 where

@@ -1,7 +1,6 @@
 -- Order 10: one declaration more, quoted before it is appended.
 -- Assumes nothing.
-use Rattle.std.specs.Prelude.{true, false, List, [], ◌∷◌, ◌++◌, ℕ, suc, ltb, eqb, length}
-use Rattle.std.proofs.Math.Option.{Option, none, some}
+use Rattle.std.specs.Prelude.{true, false, List, [], ◌∷◌, ◌++◌, ℕ, suc, ltb, eqb, length, Option, None, Some}
 use Rattle.model.specs.declared.Refusal.TheVariants.{TooDeep, NotWellFormed, TooManyDeclarations, Repeated, SheetChanged}
 use Rattle.model.specs.declared.Call.TheVariants as call
 use Rattle.model.specs.Tree.{Declaration}
@@ -25,8 +24,8 @@ append_by ds (deep p) = refuses_on TooDeep (suc (length ds)) p
 
 -- 15, at line 0, where a record is no well-formed sheet
 abbrev pub of_sheet : Option (List Declaration) → (List Declaration → OnLine) → OnLine
-of_sheet none f = refuses_on NotWellFormed 0 0
-of_sheet (some ds) f = f ds
+of_sheet None f = refuses_on NotWellFormed 0 0
+of_sheet (Some ds) f = f ds
 
 -- "The text is read by the general call, even blanks alone": what the sheet would be
 unfoldable pub quote_output : List ℕ → List ℕ → OnLine

@@ -1,7 +1,6 @@
 -- What each call writes, or why it refuses. `outcome` and `after` of Answer say the rest.
 -- Assumes nothing.
-use Rattle.std.specs.Prelude.{◌≡◌, Bool, true, false, ◌&&◌, ◌||◌, not, cond, List, [], ◌∷◌, ℕ, zero, suc, eqb, length}
-use Rattle.std.proofs.Math.Option.{Option, none, some}
+use Rattle.std.specs.Prelude.{◌≡◌, Bool, true, false, ◌&&◌, ◌||◌, not, cond, List, [], ◌∷◌, ℕ, zero, suc, eqb, length, Option, None, Some}
 use Rattle.kinds.specs.Bytes.{lparen, rparen, rbracket, is_letter}
 use Rattle.kinds.specs.Kind.{Prototype, canonical as canonicalLine}
 use Rattle.model.specs.declared.Refusal.TheVariants.{TooDeep, Unknown, NotWellFormed, WrongSort}
@@ -37,11 +36,11 @@ lone_field (err w) = bad w 0
 -- "Where some beginning of the text has 33 more `(` than `)`, it gets 10 at the first such `(`": the place of that `(`, where the text begins at
 -- the place p and l more tuples may open before it. A `)` makes room for one more, whatever it closes
 abbrev pub open_by : ℕ → ℕ → (ℕ → Option ℕ) → Option ℕ
-open_by zero p R = some p
+open_by zero p R = Some p
 open_by (suc l) p R = R l
 
 unfoldable pub crowded : ℕ → ℕ → List ℕ → Option ℕ
-crowded l p [] = none
+crowded l p [] = None
 crowded l p (c ∷ t) = cond (eqb c lparen) (open_by l p (λ k. crowded k (suc p) t)) (cond (eqb c rparen) (crowded (suc l) (suc p) t) (crowded l (suc p) t))
 
 -- "no blanks, no names": no blank stands anywhere, and no letter directly behind a `)` or `]`, since a name that no blank stands before can begin
@@ -61,8 +60,8 @@ all_of n (deep p) = bad Unknown 0
 
 -- "`(T1,...,Tn)` with suffixes", "components of any accepted kind, digits only in a tuple's own suffix": as a tuple is read in a list
 abbrev pub tuple_by : List ℕ → Option ℕ → Ans Field
-tuple_by s (some p) = deep p
-tuple_by s none = elim (is_bare false s) [ true ↦ all_of (length s) (field_by Plain (tuple_kind deepest) s 0) | false ↦ bad Unknown 0 ]
+tuple_by s (Some p) = deep p
+tuple_by s None = elim (is_bare false s) [ true ↦ all_of (length s) (field_by Plain (tuple_kind deepest) s 0) | false ↦ bad Unknown 0 ]
 
 unfoldable pub read_tuple : List ℕ → Ans Field
 read_tuple s = tuple_by s (crowded deepest 0 s)
@@ -76,12 +75,12 @@ kind_output s = written (encode_field 4) (admit read_kind s)
 -- "15 record not well formed (or of the wrong sort: a field where a declaration is due), position 0. 16 canonical or name of a constructor, or
 -- signature of anything but a function, position 0." "for records 15, 16, 20"
 abbrev pub or_wrong_sort : Option (List ℕ) → Output
-or_wrong_sort none = refuses WrongSort 0
-or_wrong_sort (some u) = writes u
+or_wrong_sort None = refuses WrongSort 0
+or_wrong_sort (Some u) = writes u
 
 abbrev pub of_record : {A : Type 0} → Option A → (A → Output) → Output
-of_record none f = refuses NotWellFormed 0
-of_record (some a) f = f a
+of_record None f = refuses NotWellFormed 0
+of_record (Some a) f = f a
 
 unfoldable pub canonical_output : List ℕ → Output
 canonical_output b = of_record (decode b) (λ d. or_wrong_sort (canonical_text d))
@@ -94,8 +93,8 @@ kind_text_output b = of_record (decode_lone b) (λ f. writes (field_text f))
 
 -- "The name call hands back the name's own bytes within the record, of a declaration or field"
 abbrev pub name_by : Option Declaration → Option Field → Output
-name_by (some d) f = or_wrong_sort (name_of d)
-name_by none f = of_record f (λ g. writes (field_name g))
+name_by (Some d) f = or_wrong_sort (name_of d)
+name_by None f = of_record f (λ g. writes (field_name g))
 
 unfoldable pub name_output : List ℕ → Output
 name_output b = name_by (decode b) (decode_lone b)
@@ -107,7 +106,7 @@ pub record AcceptedAs (s : List ℕ) (p : Prototype) : Type 0 where
   pub declaration : Declaration
   pub place : ℕ
   pub reads : parse call s ≡ got declaration place
-  pub says : name_kinds declaration ≡ some p
+  pub says : name_kinds declaration ≡ Some p
 
 -- lists of texts, each accepted with the name and kinds at its place of the other list: "one claim about whole lists of any lengths"
 pub data AllAccepted : List (List ℕ) → List Prototype → Type 0 where
@@ -117,9 +116,9 @@ pub data AllAccepted : List (List ℕ) → List Prototype → Type 0 where
 -- what is read of a line: the record that is written of it says the same name and kinds, and its line is the same
 pub record SameLine (k : Keyword) (p : Prototype) (b : List ℕ) : Type 0 where
   pub declaration : Declaration
-  pub says : decode b ≡ some declaration
+  pub says : decode b ≡ Some declaration
   pub keyword : keyword_in declaration ≡ k
-  pub same : name_kinds declaration ≡ some p
+  pub same : name_kinds declaration ≡ Some p
   pub name : name_output b ≡ writes p.name
   pub canonical : canonical_output b ≡ writes (canonicalLine p)
 
@@ -127,7 +126,7 @@ pub record SameLine (k : Keyword) (p : Prototype) (b : List ℕ) : Type 0 where
 -- same
 pub record SameKind (f : Field) (b : List ℕ) : Type 0 where
   pub tree : Field
-  pub says : decode_lone b ≡ some tree
+  pub says : decode_lone b ≡ Some tree
   pub bare : tree ≡ field_of (kind_of f)
   pub same : kind_of tree ≡ kind_of f
   pub text : kind_text_output b ≡ writes (field_text f)

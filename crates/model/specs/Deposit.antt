@@ -1,7 +1,6 @@
 -- The line that the program `deposit` prints.
 -- Assumes nothing.
-use Rattle.std.specs.Prelude.{List, ◌∷◌, ◌++◌, ℕ, length}
-use Rattle.std.proofs.Math.Option.{Option, none, some}
+use Rattle.std.specs.Prelude.{List, ◌∷◌, ◌++◌, ℕ, length, Option, None, Some}
 use Rattle.kinds.specs.Bytes.{ascii, space}
 use Rattle.kinds.specs.Decimal.{decimal}
 use Rattle.model.specs.declared.Refusal.TheVariants.{TooDeep}
@@ -15,8 +14,8 @@ use Rattle.model.specs.Answer.{number}
 
 -- "the canonical text (`-` for a constructor)"
 abbrev pub or_dash : Option (List ℕ) → List ℕ
-or_dash none = ascii "-"
-or_dash (some t) = t
+or_dash None = ascii "-"
+or_dash (Some t) = t
 
 -- "`no`, number, position"
 abbrev pub no_line : ℕ → ℕ → List ℕ

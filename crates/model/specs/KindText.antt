@@ -1,7 +1,6 @@
 -- A kind from its whole text, as `ValueKind::from_str` reads it.
 -- Assumes nothing.
-use Rattle.std.specs.Prelude.{Bool, true, false, List, [], ◌∷◌, ◌++◌, ℕ, zero, suc, ◌-◌, ◌^◌, eqb, length, take, drop}
-use Rattle.std.proofs.Math.Option.{Option, none, some}
+use Rattle.std.specs.Prelude.{Bool, true, false, List, [], ◌∷◌, ◌++◌, ℕ, zero, suc, ◌-◌, ◌^◌, eqb, length, take, drop, Option, None, Some}
 use Rattle.kinds.specs.Bytes.{ascii, lbracket, rbracket, same}
 use Rattle.kinds.specs.Decimal.{number}
 use Rattle.kinds.specs.Kind.{BitWidth, bits, octets, is_bit_width, is_byte_length, Elementary, int, uint, fixed_bytes, address, bool, function, bytes, string, Suffix, sized, unsized}
@@ -22,8 +21,8 @@ pub data Entry (A : Type 0) : Type 0 where
   entry : List ℕ → A → Entry A
 
 abbrev pub lookup : {A : Type 0} → List (Entry A) → List ℕ → Option A
-lookup [] w = none
-lookup (entry v a ∷ es) w = elim (same v w) [ true ↦ some a | false ↦ lookup es w ]
+lookup [] w = None
+lookup (entry v a ∷ es) w = elim (same v w) [ true ↦ Some a | false ↦ lookup es w ]
 
 -- "`int`, `uint` (width 256), `address`, `bool`, `function`, `bytes`, `string`"
 abbrev pub kind_words : List (Entry Elementary)
@@ -53,12 +52,12 @@ cut_last d (c ∷ s) = cut_after c s (eqb d c) (cut_last d s)
 
 -- the text without its last byte, which must be d
 abbrev pub strip_step : ℕ → ℕ → List ℕ → Option (List ℕ) → Option (List ℕ)
-strip_step d c [] r = elim (eqb d c) [ true ↦ some [] | false ↦ none ]
-strip_step d c (b ∷ s) none = none
-strip_step d c (b ∷ s) (some w) = some (c ∷ w)
+strip_step d c [] r = elim (eqb d c) [ true ↦ Some [] | false ↦ None ]
+strip_step d c (b ∷ s) None = None
+strip_step d c (b ∷ s) (Some w) = Some (c ∷ w)
 
 unfoldable pub strip : ℕ → List ℕ → Option (List ℕ)
-strip d [] = none
+strip d [] = None
 strip d (c ∷ s) = strip_step d c s (strip d s)
 
 -- "an array length is at most 2^64 - 1"
@@ -67,16 +66,16 @@ longest = 2 ^ 64 - 1
 
 -- what stands between `[` and `]`, "a tuple's suffix included": nothing, or a number
 abbrev pub sized_by : Option ℕ → Option Suffix
-sized_by none = none
-sized_by (some n) = some (sized n)
+sized_by None = None
+sized_by (Some n) = Some (sized n)
 
 unfoldable pub inside : List ℕ → Option Suffix
-inside [] = some unsized
+inside [] = Some unsized
 inside (c ∷ s) = sized_by (number longest (c ∷ s))
 
 abbrev pub shut : Option (List ℕ) → Option Suffix
-shut none = none
-shut (some m) = inside m
+shut None = None
+shut (Some m) = inside m
 
 -- "a rest followed by `[]`; a rest followed by `[`, number, `]` (last `[`)"
 pub data Peeled : Type 0 where
@@ -84,8 +83,8 @@ pub data Peeled : Type 0 where
   bare : Peeled
 
 abbrev pub peel_by : List ℕ → Option Suffix → Peeled
-peel_by a none = bare
-peel_by a (some o) = peeled a o
+peel_by a None = bare
+peel_by a (Some o) = peeled a o
 
 abbrev pub peel_at : Cut → Peeled
 peel_at uncut = bare
@@ -100,13 +99,13 @@ starts w t = same w (take (length w) t)
 
 -- "a width divisible by 8 from 8 to 256"
 abbrev pub width : (BitWidth → Elementary) → Option ℕ → Result Elementary
-width f none = err InvalidBitWidth
-width f (some n) = elim (is_bit_width n) [ true ↦ ok (f (bits n)) | false ↦ err InvalidBitWidth ]
+width f None = err InvalidBitWidth
+width f (Some n) = elim (is_bit_width n) [ true ↦ ok (f (bits n)) | false ↦ err InvalidBitWidth ]
 
 -- "`bytes` with a length from 1 to 32"
 abbrev pub byte_length : Option ℕ → Result Elementary
-byte_length none = err InvalidByteLength
-byte_length (some n) = elim (is_byte_length n) [ true ↦ ok (fixed_bytes (octets n)) | false ↦ err InvalidByteLength ]
+byte_length None = err InvalidByteLength
+byte_length (Some n) = elim (is_byte_length n) [ true ↦ ok (fixed_bytes (octets n)) | false ↦ err InvalidByteLength ]
 
 -- "11 if it starts with `int` or `uint`, 12 if with `bytes`, 13 otherwise"
 unfoldable pub with_number : List ℕ → Result Elementary
@@ -122,8 +121,8 @@ with_number t =
 
 -- a text without suffixes: a word, or a word with a number
 abbrev pub or_number : List ℕ → Option Elementary → Result Elementary
-or_number t (some e) = ok e
-or_number t none = with_number t
+or_number t (Some e) = ok e
+or_number t None = with_number t
 
 unfoldable pub elementary_of : List ℕ → Result Elementary
 elementary_of t = or_number t (lookup kind_words t)
@@ -141,9 +140,9 @@ unsuffixed e = record { kind = e; suffixes = [] }
 
 -- one step, where inner reads what a suffix follows: "read in this order as `ValueKind::from_str` does"
 abbrev pub from_str_by : (List ℕ → Result Spelled) → List ℕ → Option Elementary → Peeled → Result Spelled
-from_str_by inner t (some e) p = ok (unsuffixed e)
-from_str_by inner t none (peeled a o) = on_result (add_suffix o) (inner a)
-from_str_by inner t none bare = on_result unsuffixed (with_number t)
+from_str_by inner t (Some e) p = ok (unsuffixed e)
+from_str_by inner t None (peeled a o) = on_result (add_suffix o) (inner a)
+from_str_by inner t None bare = on_result unsuffixed (with_number t)
 
 -- k bounds the suffixes
 unfoldable pub from_str_in : ℕ → List ℕ → Result Spelled

@@ -1,7 +1,6 @@
 -- The lines that are written of a declaration or a field.
 -- Assumes nothing.
-use Rattle.std.specs.Prelude.{List, ◌∷◌, ◌++◌, ℕ}
-use Rattle.std.proofs.Math.Option.{Option, none, some}
+use Rattle.std.specs.Prelude.{List, ◌∷◌, ◌++◌, ℕ, Option, None, Some}
 use Rattle.kinds.specs.Bytes.{ascii, space}
 use Rattle.kinds.specs.Kind.{Kind, Prototype, kind_text, canonical}
 use Rattle.model.specs.declared.Keyword.{Keyword}
@@ -16,8 +15,8 @@ keyword_in (Declaration.event a nm ins) = key.Event
 keyword_in (Declaration.error nm ins) = key.Error
 
 abbrev pub canonical_by : Option Prototype → Option (List ℕ)
-canonical_by none = none
-canonical_by (some p) = some (canonical p)
+canonical_by None = None
+canonical_by (Some p) = Some (canonical p)
 
 -- the canonical text of a function, event or error
 unfoldable pub canonical_text : Declaration → Option (List ℕ)
@@ -26,10 +25,10 @@ canonical_text d = canonical_by (name_kinds d)
 -- "The signature call writes canonical text, `:`, and the outputs in brackets."
 unfoldable pub signature_text : Declaration → Option (List ℕ)
 signature_text (Declaration.function m nm ins outs) =
-    some (canonical (record { name = nm; kinds = kinds_of ins }) ++ (ascii ":" ++ kind_text (Kind.tuple (kinds_of outs))))
-signature_text (Declaration.constructor m ins) = none
-signature_text (Declaration.event a nm ins) = none
-signature_text (Declaration.error nm ins) = none
+    Some (canonical (record { name = nm; kinds = kinds_of ins }) ++ (ascii ":" ++ kind_text (Kind.tuple (kinds_of outs))))
+signature_text (Declaration.constructor m ins) = None
+signature_text (Declaration.event a nm ins) = None
+signature_text (Declaration.error nm ins) = None
 
 -- "The kind-text call writes a field record's kind."
 unfoldable pub field_text : Field → List ℕ
@@ -37,10 +36,10 @@ field_text f = kind_text (kind_of f)
 
 -- the name of a function, event or error
 unfoldable pub name_of : Declaration → Option (List ℕ)
-name_of (Declaration.function m nm ins outs) = some nm
-name_of (Declaration.constructor m ins) = none
-name_of (Declaration.event a nm ins) = some nm
-name_of (Declaration.error nm ins) = some nm
+name_of (Declaration.function m nm ins outs) = Some nm
+name_of (Declaration.constructor m ins) = None
+name_of (Declaration.event a nm ins) = Some nm
+name_of (Declaration.error nm ins) = Some nm
 
 unfoldable pub field_name : Field → List ℕ
 field_name (field m nm b ss) = nm

@@ -1,7 +1,6 @@
 -- The message call: the Display of the Rust's `ParseError`.
 -- Assumes nothing.
-use Rattle.std.specs.Prelude.{Bool, true, false, ◌||◌, List, [], ◌∷◌, ◌++◌, ℕ, ◌+◌, ◌-◌, ◌/◌, ◌%◌, leb, ltb, eqb, length, take, drop}
-use Rattle.std.proofs.Math.Option.{Option, none, some}
+use Rattle.std.specs.Prelude.{Bool, true, false, ◌||◌, List, [], ◌∷◌, ◌++◌, ℕ, ◌+◌, ◌-◌, ◌/◌, ◌%◌, leb, ltb, eqb, length, take, drop, Option, None, Some}
 use Rattle.kinds.specs.Bytes.{ascii, quote, backslash}
 use Rattle.kinds.specs.Decimal.{decimal}
 use Rattle.model.specs.declared.Refusal.{Refusal}
@@ -17,16 +16,16 @@ use Rattle.model.specs.Answer.{number, Output, writes}
 
 -- "The wordings are those of `ParseErrorKind`, 5 naming the keyword wanted."
 abbrev pub expected : List ℕ → Option (List ℕ)
-expected t = some (ascii "expected " ++ t)
+expected t = Some (ascii "expected " ++ t)
 
 abbrev pub expected_keyword : Option Keyword → Option (List ℕ)
-expected_keyword none = none
-expected_keyword (some k) = expected (keyword_text k)
+expected_keyword None = None
+expected_keyword (Some k) = expected (keyword_text k)
 
 -- refusals 1 to 7 have a message, by their numbers
 abbrev pub wording_cases : Option Keyword → List (Case (Option (List ℕ)))
 wording_cases k =
-    case (number Eos) (some (ascii "unexpected end of stream"))
+    case (number Eos) (Some (ascii "unexpected end of stream"))
     ∷ case (number ExpectOpen) (expected (ascii "("))
     ∷ case (number ExpectClose) (expected (ascii ")"))
     ∷ case (number ExpectDeclaration) (expected (ascii "declaration"))
@@ -36,7 +35,7 @@ wording_cases k =
     ∷ []
 
 unfoldable pub wording : Refusal → Option Keyword → Option (List ℕ)
-wording w k = select (wording_cases k) none (number w)
+wording w k = select (wording_cases k) None (number w)
 
 -- "up to ten bytes each side"
 abbrev pub reach : ℕ
@@ -94,8 +93,8 @@ message_text s p w =
     w ++ (ascii " at position " ++ (decimal p ++ (ascii "(\"" ++ (escaped (context s p) ++ ascii "\")"))))
 
 abbrev pub message_by : List ℕ → ℕ → Option (List ℕ) → Output
-message_by s p none = writes []
-message_by s p (some w) = writes (message_text s p w)
+message_by s p None = writes []
+message_by s p (Some w) = writes (message_text s p w)
 
 -- "On acceptance, or refusals 8 to 10, it writes nothing and says length 0."
 abbrev pub message_of : List ℕ → Option Keyword → Ans Declaration → Output

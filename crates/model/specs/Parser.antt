@@ -1,7 +1,6 @@
 -- Parsers: readings at a place of a text. A look may fail and then moves nothing; a reading that fails says why and where.
 -- Assumes nothing.
-use Rattle.std.specs.Prelude.{true, false, List, [], ◌∷◌, ℕ, ◌+◌, eqb, drop}
-use Rattle.std.proofs.Math.Option.{Option, none, some}
+use Rattle.std.specs.Prelude.{true, false, List, [], ◌∷◌, ℕ, ◌+◌, eqb, drop, Option, None, Some}
 use Rattle.kinds.specs.Bytes.{semicolon}
 use Rattle.model.specs.declared.Refusal.{Refusal}
 use Rattle.model.specs.declared.Refusal.TheVariants.{Eos, ExpectKeyword, ExpectIdentifier, ExpectEnd}
@@ -78,8 +77,8 @@ unfoldable pub word_end : List ℕ → ℕ → ℕ
 word_end s at = skip s at + word_length (drop (skip s at) s)
 
 abbrev pub found_by : {A : Type 0} → Option A → ℕ → Found A
-found_by none n = missing
-found_by (some a) n = found a n
+found_by None n = missing
+found_by (Some a) n = found a n
 
 -- `keyword_of`: one of the words of a list, compared as a whole word, and what it stands for
 unfoldable pub keyword_of : {A : Type 0} → List (Entry A) → List ℕ → ℕ → Found A

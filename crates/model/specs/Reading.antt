@@ -1,7 +1,6 @@
 -- Reading declarations, side by side with the Rust's functions of the same names.
 -- Assumes nothing.
-use Rattle.std.specs.Prelude.{Bool, true, false, List, [], ◌∷◌, ℕ, zero, suc, ◌+◌, ltb, eqb, length, drop}
-use Rattle.std.proofs.Math.Option.{Option, none, some}
+use Rattle.std.specs.Prelude.{Bool, true, false, List, [], ◌∷◌, ℕ, zero, suc, ◌+◌, ltb, eqb, length, drop, Option, None, Some}
 use Rattle.kinds.specs.Bytes.{ascii, comma, lparen, rparen, lbracket, rbracket, is_digit}
 use Rattle.kinds.specs.Kind.{Elementary, int, uint, fixed_bytes, address, bool, bytes, string, Suffix}
 use Rattle.model.specs.declared.Refusal.TheVariants.{ExpectOpen, ExpectClose, ExpectDeclaration, TooLong, NotUtf8}
@@ -31,9 +30,9 @@ run_kind s p = let n = run_length (drop p s) in
     of_run (from_str (part s p n)) p (p + n)
 
 abbrev pub closed : Option Suffix → Found (Unit {0}) → Found Suffix
-closed none r = missing
-closed (some o) missing = missing
-closed (some o) (found _ n) = found o n
+closed None r = missing
+closed (Some o) missing = missing
+closed (Some o) (found _ n) = found o n
 
 abbrev pub opened : List ℕ → Found (Unit {0}) → Found Suffix
 opened s missing = missing
@@ -239,21 +238,21 @@ abbrev pub keywords : List Keyword
 keywords = key.Function ∷ key.Constructor ∷ key.Event ∷ key.Error ∷ []
 
 abbrev pub opening_of : List Keyword → List ℕ → Option Keyword
-opening_of [] s = none
-opening_of (k ∷ ks) s = elim (starts (keyword_text k) s) [ true ↦ some k | false ↦ opening_of ks s ]
+opening_of [] s = None
+opening_of (k ∷ ks) s = elim (starts (keyword_text k) s) [ true ↦ Some k | false ↦ opening_of ks s ]
 
 -- the keyword that a call wants: "the general call wants the one it saw"
 unfoldable pub wanted : Call → List ℕ → Option Keyword
 wanted call.General s = opening_of keywords s
-wanted call.Function s = some key.Function
-wanted call.Constructor s = some key.Constructor
-wanted call.Event s = some key.Event
-wanted call.Error s = some key.Error
+wanted call.Function s = Some key.Function
+wanted call.Constructor s = Some key.Constructor
+wanted call.Event s = Some key.Event
+wanted call.Error s = Some key.Error
 
 -- "4 none of the four openings, position 0"
 abbrev pub read_by : Option Keyword → List ℕ → Ans Declaration
-read_by none s = bad ExpectDeclaration 0
-read_by (some k) s = exec (parser_of k) s
+read_by None s = bad ExpectDeclaration 0
+read_by (Some k) s = exec (parser_of k) s
 
 unfoldable pub read_declaration : Call → List ℕ → Ans Declaration
 read_declaration c s = read_by (wanted c s) s

@@ -1,7 +1,6 @@
 -- Records: the encoding of trees, which trees are well formed, and the tree that bytes say.
 -- Assumes nothing.
-use Rattle.std.specs.Prelude.{Bool, true, false, ◌&&◌, ◌||◌, List, [], ◌∷◌, ◌++◌, ℕ, zero, suc, leb, eqb, length, take, drop}
-use Rattle.std.proofs.Math.Option.{Option, none, some}
+use Rattle.std.specs.Prelude.{Bool, true, false, ◌&&◌, ◌||◌, List, [], ◌∷◌, ◌++◌, ℕ, zero, suc, leb, eqb, length, take, drop, Option, None, Some}
 use Rattle.kinds.specs.Bytes.{all, between, is_word}
 use Rattle.kinds.specs.Kind.{BitWidth, bits, octets, is_bit_width, is_byte_length, is_elementary, Elementary, int, uint, fixed_bytes, address, bool, bytes, string, Suffix, sized, unsized}
 use Rattle.model.specs.declared.Sort.{Sort}
@@ -75,8 +74,8 @@ is_suffix (sized n) = leb n longest
 is_suffix unsized = true
 
 abbrev pub is_absent : {A : Type 0} → Option A → Bool
-is_absent none = true
-is_absent (some a) = false
+is_absent None = true
+is_absent (Some a) = false
 
 -- whether some word of a table stands for a mark
 abbrev pub has_mark : List (Entry ℕ) → ℕ → Bool
@@ -127,38 +126,38 @@ well_formed_field f = is_field Plain deepest f && leb (length (encode_field 4 f)
 -- The tree that bytes say, if it is well formed.
 
 abbrev pub given : {A B : Type 0} → Option A → (A → Option B) → Option B
-given none f = none
-given (some a) f = f a
+given None f = None
+given (Some a) f = f a
 
 abbrev pub on_option : {A B : Type 0} → (A → B) → Option A → Option B
-on_option f none = none
-on_option f (some a) = some (f a)
+on_option f None = None
+on_option f (Some a) = Some (f a)
 
 abbrev pub when : {A : Type 0} → Bool → Option A → Option A
 when true r = r
-when false r = none
+when false r = None
 
 -- nothing is left
 abbrev pub ended : {A : Type 0} → List ℕ → Option A → Option A
 ended [] r = r
-ended (c ∷ t) r = none
+ended (c ∷ t) r = None
 
 -- the record that bytes begin with, taken apart
 abbrev pub on_piece : {A : Type 0} → Piece → (ℕ → List ℕ → List ℕ → Option A) → Option A
-on_piece no_piece f = none
+on_piece no_piece f = None
 on_piece (piece k body r) f = f k body r
 
 -- the same, if it is of kind k
 abbrev pub of_kind : {A : Type 0} → ℕ → Piece → (List ℕ → List ℕ → Option A) → Option A
-of_kind k p f = on_piece p (λ j body r. elim (eqb j k) [ true ↦ f body r | false ↦ none ])
+of_kind k p f = on_piece p (λ j body r. elim (eqb j k) [ true ↦ f body r | false ↦ None ])
 
 -- a number that takes the whole of a body, in n bytes
 abbrev pub wholly : {A : Type 0} → ℕ → List ℕ → (ℕ → Option A) → Option A
-wholly n body f = elim (eqb (length body) n) [ true ↦ f (le_value body) | false ↦ none ]
+wholly n body f = elim (eqb (length body) n) [ true ↦ f (le_value body) | false ↦ None ]
 
 -- a number of two bytes in front of a body
 abbrev pub fronted : {A : Type 0} → List ℕ → (ℕ → List ℕ → Option A) → Option A
-fronted body f = elim (leb 2 (length body)) [ true ↦ f (le_value (take 2 body)) (drop 2 body) | false ↦ none ]
+fronted body f = elim (leb 2 (length body)) [ true ↦ f (le_value (take 2 body)) (drop 2 body) | false ↦ None ]
 
 -- what a number stands for
 pub data Case (A : Type 0) : Type 0 where
@@ -169,13 +168,13 @@ select [] d k = d
 select (case n a ∷ cs) d k = elim (eqb n k) [ true ↦ a | false ↦ select cs d k ]
 
 abbrev pub width_from : (BitWidth → Elementary) → List ℕ → Option Elementary
-width_from f body = wholly 2 body (λ n. when (is_bit_width n) (some (f (bits n))))
+width_from f body = wholly 2 body (λ n. when (is_bit_width n) (Some (f (bits n))))
 
 abbrev pub byte_length_from : List ℕ → Option Elementary
-byte_length_from body = wholly 2 body (λ n. when (is_byte_length n) (some (fixed_bytes (octets n))))
+byte_length_from body = wholly 2 body (λ n. when (is_byte_length n) (Some (fixed_bytes (octets n))))
 
 abbrev pub bodiless : Elementary → List ℕ → Option Elementary
-bodiless e body = ended body (some e)
+bodiless e body = ended body (Some e)
 
 abbrev pub elementary_cases : List (Case (List ℕ → Option Elementary))
 elementary_cases =
@@ -191,13 +190,13 @@ elementary_cases =
 
 -- by its kind and body
 unfoldable pub decode_elementary : ℕ → List ℕ → Option Elementary
-decode_elementary k body = select elementary_cases (λ _. none) k body
+decode_elementary k body = select elementary_cases (λ _. None) k body
 
 abbrev pub suffix_cases : List (Case (List ℕ → Option Suffix))
-suffix_cases = case 0xA (λ body. wholly 8 body (λ n. some (sized n))) ∷ case 0xB (λ body. ended body (some unsized)) ∷ []
+suffix_cases = case 0xA (λ body. wholly 8 body (λ n. Some (sized n))) ∷ case 0xB (λ body. ended body (Some unsized)) ∷ []
 
 unfoldable pub decode_suffix : ℕ → List ℕ → Option Suffix
-decode_suffix k body = select suffix_cases (λ _. none) k body
+decode_suffix k body = select suffix_cases (λ _. None) k body
 
 -- an elementary kind, or a tuple whose fields T reads
 unfoldable pub base_from : (List ℕ → Option Fields) → ℕ → List ℕ → Option Base
@@ -209,8 +208,8 @@ module _ (w : ℕ) where
   each_by cons D R p = on_piece p (λ k body r. given (D k body) (λ a. on_option (cons a) (R r)))
 
   unfoldable pub each_in : {A L : Type 0} → L → (A → L → L) → (ℕ → List ℕ → Option A) → ℕ → List ℕ → Option L
-  each_in nil cons D zero b = ended b (some nil)
-  each_in nil cons D (suc k) [] = some nil
+  each_in nil cons D zero b = ended b (Some nil)
+  each_in nil cons D (suc k) [] = Some nil
   each_in nil cons D (suc k) (c ∷ t) = each_by cons D (λ r. each_in nil cons D k r) (piece_of w (c ∷ t))
 
   -- a record takes two bytes at least
@@ -227,11 +226,11 @@ module _ (w : ℕ) where
       (fronted body (λ m r.
       of_kind 0x11 (piece_of w r) (λ nm r₁.
       on_piece (piece_of w r₁) (λ j base r₂.
-      given (B j base) (λ b. given (decode_suffixes r₂) (λ ss. when (is_mark (marks sort (record { base = b; suffixes = ss })) m nm && is_field_name nm) (some (field m nm b ss))))))))
+      given (B j base) (λ b. given (decode_suffixes r₂) (λ ss. when (is_mark (marks sort (record { base = b; suffixes = ss })) m nm && is_field_name nm) (Some (field m nm b ss))))))))
 
   -- the fields of a tuple, where d tuples may nest
   unfoldable pub tuple_from : ℕ → List ℕ → Option Fields
-  tuple_from zero body = none
+  tuple_from zero body = None
   tuple_from (suc d) body = each no_field more_fields (field_from Plain (base_from (tuple_from d))) body
 
   -- a field, or the fields of a declaration's own list, of a sort
@@ -252,21 +251,21 @@ module _ (w : ℕ) where
       fronted body (λ m r.
       name_from r (λ nm r₁.
       list_from Parameter r₁ (λ ins r₂.
-      list_from Parameter r₂ (λ outs r₃. ended r₃ (when (leb m 3) (some (Declaration.function m nm ins outs)))))))
+      list_from Parameter r₂ (λ outs r₃. ended r₃ (when (leb m 3) (Some (Declaration.function m nm ins outs)))))))
 
   abbrev pub constructor_from : List ℕ → Option Declaration
-  constructor_from body = fronted body (λ m r. list_from Parameter r (λ ins r₁. ended r₁ (when (between 2 3 m) (some (Declaration.constructor m ins)))))
+  constructor_from body = fronted body (λ m r. list_from Parameter r (λ ins r₁. ended r₁ (when (between 2 3 m) (Some (Declaration.constructor m ins)))))
 
   abbrev pub event_from : List ℕ → Option Declaration
   event_from body =
-      fronted body (λ a r. name_from r (λ nm r₁. list_from Event r₁ (λ ins r₂. ended r₂ (when (leb a 1) (some (Declaration.event a nm ins))))))
+      fronted body (λ a r. name_from r (λ nm r₁. list_from Event r₁ (λ ins r₂. ended r₂ (when (leb a 1) (Some (Declaration.event a nm ins))))))
 
   abbrev pub error_from : List ℕ → Option Declaration
-  error_from body = name_from body (λ nm r. list_from Plain r (λ ins r₁. ended r₁ (some (Declaration.error nm ins))))
+  error_from body = name_from body (λ nm r. list_from Plain r (λ ins r₁. ended r₁ (Some (Declaration.error nm ins))))
 
   unfoldable pub decode_declaration : ℕ → List ℕ → Option Declaration
   decode_declaration k body =
-      select (case 0x20 function_from ∷ case 0x21 constructor_from ∷ case 0x22 event_from ∷ case 0x23 error_from ∷ []) (λ _. none) k body
+      select (case 0x20 function_from ∷ case 0x21 constructor_from ∷ case 0x22 event_from ∷ case 0x23 error_from ∷ []) (λ _. None) k body
 
 -- one record that is all of the bytes, at most 40,960
 abbrev pub whole : {A : Type 0} → (ℕ → List ℕ → Option A) → List ℕ → Option A

@@ -1,7 +1,6 @@
 -- Order 5, sheets: texts of many declarations, a line each, and the records of what they say.
 -- Assumes nothing.
-use Rattle.std.specs.Prelude.{◌≡◌, Bool, true, false, ◌&&◌, ◌||◌, List, [], ◌∷◌, ◌++◌, ℕ, zero, suc, ◌+◌, leb, ltb, eqb, length}
-use Rattle.std.proofs.Math.Option.{Option, none, some}
+use Rattle.std.specs.Prelude.{◌≡◌, Bool, true, false, ◌&&◌, ◌||◌, List, [], ◌∷◌, ◌++◌, ℕ, zero, suc, ◌+◌, leb, ltb, eqb, length, Option, None, Some}
 use Rattle.kinds.specs.Bytes.{all, same}
 use Rattle.model.specs.declared.Refusal.{Refusal}
 use Rattle.model.specs.declared.Refusal.TheVariants.{TooDeep, SheetTooLong, TooManyDeclarations, Repeated}
@@ -83,10 +82,10 @@ line_at (suc i) (p ∷ ps) = line_at i ps
 
 -- "same keyword and same canonical text (or a second constructor)"; only constructors have no canonical text
 abbrev pub same_text : Option (List ℕ) → Option (List ℕ) → Bool
-same_text none none = true
-same_text none (some u) = false
-same_text (some t) none = false
-same_text (some t) (some u) = same t u
+same_text None None = true
+same_text None (Some u) = false
+same_text (Some t) None = false
+same_text (Some t) (Some u) = same t u
 
 unfoldable pub repeats : Declaration → Declaration → Bool
 repeats d e = same (keyword_text (keyword_in d)) (keyword_text (keyword_in e)) && same_text (canonical_text d) (canonical_text e)
@@ -98,8 +97,8 @@ has (e ∷ es) d = repeats e d || has es d
 
 -- how many declarations come before the first one that repeats an earlier one, where es come before them all
 unfoldable pub first_repeat : List Declaration → List Declaration → Option ℕ
-first_repeat es [] = none
-first_repeat es (d ∷ ds) = elim (has es d) [ true ↦ some 0 | false ↦ on_option suc (first_repeat (es ++ (d ∷ [])) ds) ]
+first_repeat es [] = None
+first_repeat es (d ∷ ds) = elim (has es d) [ true ↦ Some 0 | false ↦ on_option suc (first_repeat (es ++ (d ∷ [])) ds) ]
 
 -- Records.
 
@@ -127,7 +126,7 @@ decode_all b = each 4 [] ◌∷◌ declaration_in b
 
 -- the declarations that a sheet record says, if it is well formed
 abbrev pub sheet_from : ℕ → List ℕ → Option (List Declaration)
-sheet_from k body = when (eqb k 0x30) (given (decode_all body) (λ ds. when (is_sheet ds) (some ds)))
+sheet_from k body = when (eqb k 0x30) (given (decode_all body) (λ ds. when (is_sheet ds) (Some ds)))
 
 unfoldable pub decode_sheet : List ℕ → Option (List Declaration)
 decode_sheet b = on_piece (piece_of 4 b) (λ k body r. ended r (sheet_from k body))
@@ -147,8 +146,8 @@ writes_sheet ds = record { output = writes (encode_sheet ds); line = 0 }
 
 -- "Every number from 21 on, later ones too, has position 0."
 abbrev pub or_repeat : Option ℕ → List Placed → OnLine
-or_repeat (some i) ps = refuses_on Repeated (line_at i ps) 0
-or_repeat none ps = writes_sheet (declarations ps)
+or_repeat (Some i) ps = refuses_on Repeated (line_at i ps) 0
+or_repeat None ps = writes_sheet (declarations ps)
 
 -- "22 more than 512 declarations, at the 513th, found after all lines have read; 23 ..., at the earliest such later line, after 22 and before 20"
 unfoldable pub sheet_by : Lines → OnLine

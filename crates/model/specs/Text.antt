@@ -1,7 +1,6 @@
 -- Texts as lists of bytes: UTF-8, blanks, words and runs. A place is a byte offset from 0.
 -- Assumes nothing.
-use Rattle.std.specs.Prelude.{Bool, true, false, ◌&&◌, ◌||◌, not, cond, List, [], ◌∷◌, ℕ, zero, suc, ◌+◌, ◌*◌, ◌-◌, ltb, eqb, length, take, drop, get_or}
-use Rattle.std.proofs.Math.Option.{Option, none, some}
+use Rattle.std.specs.Prelude.{Bool, true, false, ◌&&◌, ◌||◌, not, cond, List, [], ◌∷◌, ℕ, zero, suc, ◌+◌, ◌*◌, ◌-◌, ltb, eqb, length, take, drop, get_or, Option, None, Some}
 use Rattle.kinds.specs.Bytes.{comma, rparen, between, is_letter, is_word_byte}
 
 -- how far the items reach that f finds one behind the other: f answers the length of the item that a list begins with, and 0 if none;
@@ -30,14 +29,14 @@ is_tail = between 0x80 0xBF
 
 -- the code point that k tail bytes complete
 abbrev pub tails : ℕ → ℕ → List ℕ → Option ℕ
-tails zero v t = some v
-tails (suc k) v [] = none
-tails (suc k) v (c ∷ t) = elim (is_tail c) [ true ↦ tails k (v * 64 + (c - 0x80)) t | false ↦ none ]
+tails zero v t = Some v
+tails (suc k) v [] = None
+tails (suc k) v (c ∷ t) = elim (is_tail c) [ true ↦ tails k (v * 64 + (c - 0x80)) t | false ↦ None ]
 
 -- UTF-8 has no overlong forms, no surrogates, and nothing above 10FFFF: a code point that wants n bytes since it is at least low
 abbrev pub scalar : ℕ → ℕ → Option ℕ → Char
-scalar n low none = no_char
-scalar n low (some v) = elim (between low 0x10FFFF v && not (between 0xD800 0xDFFF v)) [ true ↦ char v n | false ↦ no_char ]
+scalar n low None = no_char
+scalar n low (Some v) = elim (between low 0x10FFFF v && not (between 0xD800 0xDFFF v)) [ true ↦ char v n | false ↦ no_char ]
 
 -- the character that a list begins with, in UTF-8 (RFC 3629)
 unfoldable pub char_of : List ℕ → Char

@@ -1,7 +1,6 @@
 -- Order 12, a tighter record: records as trees without lengths, laid out with lengths of any width; and what a tight record says.
 -- Assumes nothing.
-use Rattle.std.specs.Prelude.{List, [], ◌∷◌, ◌++◌, ℕ, zero, suc, leb, ltb, length, take, drop}
-use Rattle.std.proofs.Math.Option.{Option, none, some}
+use Rattle.std.specs.Prelude.{List, [], ◌∷◌, ◌++◌, ℕ, zero, suc, leb, ltb, length, take, drop, Option, None, Some}
 use Rattle.model.specs.declared.Refusal.TheVariants.{NotTight}
 use Rattle.model.specs.Tree.{Declaration}
 use Rattle.model.specs.Layout.{record_of, piece_of}
@@ -17,12 +16,12 @@ use Rattle.model.specs.Calls.{or_wrong_sort, of_record}
 -- The declaration that a tight record says. The 40,960 bytes of document 01 are measured on its old form.
 unfoldable pub decode_tight : List ℕ → Option Declaration
 decode_tight b =
-    given (on_piece (piece_of 2 b) (λ k body r. ended r (decode_declaration 2 k body))) (λ d. when (leb (length (encode 4 d)) longest_record) (some d))
+    given (on_piece (piece_of 2 b) (λ k body r. ended r (decode_declaration 2 k body))) (λ d. when (leb (length (encode 4 d)) longest_record) (Some d))
 
 -- "28 the bytes aren't the tight layout of a well-formed declaration, in place of 15"; "Every number from 21 on, later ones too, has position 0."
 abbrev pub of_tight : Option Declaration → (Declaration → Output) → Output
-of_tight none f = refuses NotTight 0
-of_tight (some d) f = f d
+of_tight None f = refuses NotTight 0
+of_tight (Some d) f = f d
 
 -- "Convert each layout to the other."
 unfoldable pub tight_output : List ℕ → Output
@@ -64,21 +63,21 @@ unfoldable mutual
 -- how many bytes stand before the records in a body, by the record's kind; none where it holds no records
 unfoldable pub front_length : ℕ → Option ℕ
 front_length k =
-    select (case 0x9 (some 0) ∷ case 0x10 (some 2) ∷ case 0x12 (some 0) ∷ case 0x20 (some 2) ∷ case 0x21 (some 2) ∷ case 0x22 (some 2) ∷ case 0x23 (some 0) ∷ []) none k
+    select (case 0x9 (Some 0) ∷ case 0x10 (Some 2) ∷ case 0x12 (Some 0) ∷ case 0x20 (Some 2) ∷ case 0x21 (Some 2) ∷ case 0x22 (Some 2) ∷ case 0x23 (Some 0) ∷ []) None k
 
 -- the records that bytes say with lengths of w bytes, where they nest at most d deep
 module _ (w : ℕ) where
   -- one, by its kind and body, where N reads the records in it
   abbrev pub node_by : (List ℕ → Option Nodes) → ℕ → List ℕ → Option ℕ → Option Node
-  node_by N k body none = some (node k body no_node)
-  node_by N k body (some m) = when (leb m (length body)) (on_option (node k (take m body)) (N (drop m body)))
+  node_by N k body None = Some (node k body no_node)
+  node_by N k body (Some m) = when (leb m (length body)) (on_option (node k (take m body)) (N (drop m body)))
 
   -- a kind has two bytes
   unfoldable pub node_from : (List ℕ → Option Nodes) → ℕ → List ℕ → Option Node
   node_from N k body = when (ltb k 65536) (node_by N k body (front_length k))
 
   unfoldable pub nodes_from : ℕ → List ℕ → Option Nodes
-  nodes_from zero b = none
+  nodes_from zero b = None
   nodes_from (suc d) b = each w no_node more_nodes (node_from (nodes_from d)) b
 
 -- a declaration, its list, 32 times a field and its tuple, a field and its kind

@@ -1,7 +1,6 @@
 -- What a text says, as a tree; and its kinds and name, without what demand 3 forgets.
 -- Assumes nothing.
-use Rattle.std.specs.Prelude.{List, [], ◌∷◌, ◌++◌, ℕ}
-use Rattle.std.proofs.Math.Option.{Option, none, some}
+use Rattle.std.specs.Prelude.{List, [], ◌∷◌, ◌++◌, ℕ, Option, None, Some}
 use Rattle.kinds.specs.Kind.{Elementary, Suffix, Kind, Kinds, no_kind, more_kinds, Prototype}
 use Rattle.kinds.specs.Signatures.{Signature}
 
@@ -91,14 +90,14 @@ field_of k = field unmarked [] (base_of k) (suffixes_of k)
 
 -- the name and kinds of a function, event or error; a constructor has none
 unfoldable pub name_kinds : Declaration → Option Prototype
-name_kinds (function m nm ins outs) = some (record { name = nm; kinds = kinds_of ins })
-name_kinds (constructor m ins) = none
-name_kinds (event a nm ins) = some (record { name = nm; kinds = kinds_of ins })
-name_kinds (error nm ins) = some (record { name = nm; kinds = kinds_of ins })
+name_kinds (function m nm ins outs) = Some (record { name = nm; kinds = kinds_of ins })
+name_kinds (constructor m ins) = None
+name_kinds (event a nm ins) = Some (record { name = nm; kinds = kinds_of ins })
+name_kinds (error nm ins) = Some (record { name = nm; kinds = kinds_of ins })
 
 -- Order 13: "name, inputs and outputs, kinds only", of a function
 unfoldable pub signature_of : Declaration → Option Signature
-signature_of (function m nm ins outs) = some (record { name = nm; inputs = kinds_of ins; outputs = kinds_of outs })
-signature_of (constructor m ins) = none
-signature_of (event a nm ins) = none
-signature_of (error nm ins) = none
+signature_of (function m nm ins outs) = Some (record { name = nm; inputs = kinds_of ins; outputs = kinds_of outs })
+signature_of (constructor m ins) = None
+signature_of (event a nm ins) = None
+signature_of (error nm ins) = None

@@ -1,3 +1,5 @@
-pub mod Parts
-pub mod Bodies
+pub mod Wording
+pub mod Listing
 pub mod Modifying
+pub mod Stepwise
+pub mod Wholes

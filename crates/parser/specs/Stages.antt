@@ -1,50 +1,49 @@
 -- What each stage of reading a declaration answers and leaves, by the definitions: the four keywords differ only in the stages that they have.
 -- Assumes nothing.
-use Rattle.std.specs.Prelude.{◌≡◌, Bool, true, false, ◌||◌, not, List, [], ◌∷◌, ◌++◌, ℕ, ◌+◌, ◌*◌, ◌≤◌, ltb, eqb, length}
+use Rattle.std.specs.Prelude.{◌≡◌, Bool, true, false, ◌||◌, not, List, [], ◌∷◌, ◌++◌, ℕ, ◌+◌, ◌*◌, ◌≤◌, ltb, eqb, length, Option, None, Some, Result, Ok, Err}
 use Rattle.kinds.specs.Bytes.{ascii}
 use Rattle.model.specs.declared.Keyword.{Keyword}
 use Rattle.model.specs.declared.Keyword.TheVariants as key
+use Rattle.model.specs.declared.Refused.{Refused}
 use Rattle.model.specs.declared.Sort.{Sort}
 use Rattle.model.specs.declared.Sort.TheVariants.{Plain, Parameter, Event}
 use Rattle.model.specs.Tree.{not_stated, is_payable}
 use Rattle.model.specs.Text.{first}
 use Rattle.model.specs.KindText.{Entry, entry, lookup}
-use Rattle.model.specs.Parser.{Ans, got, on_ans, then, ident, keyword, option, end}
-use Rattle.model.specs.Reading.{fields, mutabilities, visibilities, visibility, modifiers, returns, keyword_text}
+use Rattle.model.specs.Parser.{Ans, got, bad, deep, on_ans, then, word, ident, option, end}
+use Rattle.model.specs.Reading.{fields, mutabilities, visibilities, visibility, modifiers, returns}
 use Rattle.model.specs.Layout.{little_endian, record_of}
 use Rattle.model.specs.Record.{encode_name, encode_list, is_absent}
-use Rattle.layout.specs.Buffer.{head, Wrote}
-use Rattle.fields.specs.declared.Read.{Read}
-use Rattle.fields.specs.declared.Read.TheVariants.{Got, Bad, Deep}
-use Rattle.fields.specs.Words.{or_none}
-use Rattle.fields.specs.Scratch.{to_read, bytes_of}
+use Rattle.layout.specs.Buffer.{head}
+use Rattle.fields.specs.declared.Failed.{Failed}
+use Rattle.fields.specs.declared.Failed.TheVariants.{Deep}
+use Rattle.fields.specs.declared.Word.{Word}
+use Rattle.fields.specs.Words.{WordIs, to_taken}
+use Rattle.fields.specs.Scratch.{Read, bad_at, to_read, bytes_of, Begins}
+use Rattle.parser.specs.declared.Written.{Written}
+use Rattle.parser.specs.declared.Stated.{Stated}
 
 -- where an answer lies, and that its record takes at most 10 bytes for each byte read, and x more
 abbrev pub Paid : ℕ → List ℕ → ℕ → Read → Type 0
-Paid x s at (Got n l) = (at ≤ n) × (n ≤ length s) × (l + 10 * at ≤ 10 * n + x)
-Paid x s at (Bad w p) = Unit {0}
-Paid x s at (Deep p) = Unit {0}
+Paid x s at (Ok g) = (at ≤ g.next) × (g.next ≤ length s) × (g.len + 10 * at ≤ 10 * g.next + x)
+Paid x s at (Err f) = Unit {0}
 
--- a stage that writes at o what a tells
-pub record Did (x : ℕ) (s : List ℕ) (at o : ℕ) (b₀ b : List ℕ) (a : Ans (List ℕ)) (r : Read) : Type 0 where
+-- a stage that writes what a tells, from where its buffer begins
+pub record Did (x : ℕ) (s : List ℕ) (at : ℕ) (b : List ℕ) (a : Ans (List ℕ)) (r : Read) : Type 0 where
   pub same : r ≡ to_read a
   pub within : Paid x s at r
-  pub wrote : Wrote o b₀ b (bytes_of a)
+  pub wrote : Begins b (bytes_of a)
 
 -- and one that writes nothing
-abbrev pub Behind : List ℕ → ℕ → Read → Type 0
-Behind s at (Got n l) = (at ≤ n) × (n ≤ length s)
-Behind s at (Bad w p) = Unit {0}
-Behind s at (Deep p) = Unit {0}
+abbrev pub Behind : List ℕ → ℕ → Result ℕ Refused → Type 0
+Behind s at (Ok n) = (at ≤ n) × (n ≤ length s)
+Behind s at (Err r) = Unit {0}
 
-pub record Took (s : List ℕ) (at : ℕ) (a : Ans (List ℕ)) (r : Read) : Type 0 where
-  pub same : r ≡ to_read a
+pub record Took (s : List ℕ) (at : ℕ) (a : Ans (Unit {0})) (r : Result ℕ Refused) : Type 0 where
+  pub same : to_taken r ≡ a
   pub within : Behind s at r
 
 -- the stages
-unfoldable pub keyword_is : Keyword → List ℕ → Ans (List ℕ)
-keyword_is k s = on_ans (λ _. []) (keyword (keyword_text k) s 0)
-
 unfoldable pub ident_of : List ℕ → ℕ → Ans (List ℕ)
 ident_of s at = on_ans (encode_name 4) (ident s at)
 
@@ -82,9 +81,6 @@ absent key.Constructor = not_stated
 absent key.Event = 0
 absent key.Error = 0
 
-unfoldable pub stated_by : Keyword → List ℕ → ℕ
-stated_by k w = or_none (lookup (words_of k) w)
-
 -- a reading from `at` on that gives x and stops at n
 pub record Stops {A : Type 0} (s : List ℕ) (at : ℕ) (a : Ans A) (x : A) (n : ℕ) : Type 0 where
   pub same : a ≡ got x n
@@ -92,28 +88,25 @@ pub record Stops {A : Type 0} (s : List ℕ) (at : ℕ) (a : Ans A) (x : A) (n :
   pub inside : n ≤ length s
 
 -- that word: its number, or the one that stands for none, and the place behind it
-abbrev pub OptionIs : List ℕ → ℕ → Keyword → ℕ → ℕ → Type 0
-OptionIs s at k m n = Stops s at (option (words_of k) (absent k) s at) m n
+abbrev pub OptionIs : List ℕ → ℕ → Keyword → Stated → Type 0
+OptionIs s at k r = Stops s at (option (words_of k) (absent k) s at) r.number r.next
 
 -- whether a word is a visibility word
 unfoldable pub is_visibility : List ℕ → Bool
 is_visibility w = not (is_absent (lookup visibilities w))
 
--- a visibility word ends at n, which is `at` where none stands
-abbrev pub VisibleIs : List ℕ → ℕ → ℕ → Type 0
-VisibleIs s at n = Stops s at (visibility s at) (ltb at n) n
-
 -- whether a byte is the first of a visibility word or a mutability word: `pure` and `payable` begin as `public` does
 abbrev pub begins_modifier : ℕ → Bool
 begins_modifier c = eqb c (first (ascii "external")) || (eqb c (first (ascii "public")) || eqb c (first (ascii "view")))
 
--- a second word, behind a first one: a mutability word behind a visibility word, and the other way round, where m is stated so far
-unfoldable pub second_of : Bool → ℕ → List ℕ → ℕ → Ans ℕ
-second_of true m s at = option (words_of key.Function) (absent key.Function) s at
-second_of false m s at = then (visibility s at) (λ _ n. got m n)
+-- the word behind any blanks, or that it is neither a visibility word nor a mutability word
+abbrev pub ModifierIs : List ℕ → ℕ → Option Word → Type 0
+ModifierIs s at None = (lookup visibilities (word s at) ≡ None) × (lookup mutabilities (word s at) ≡ None)
+ModifierIs s at (Some w) = WordIs s at w.bytes.now w.next
 
-abbrev pub SecondIs : List ℕ → ℕ → Bool → ℕ → ℕ → ℕ → Type 0
-SecondIs s at seen m k n = Stops s at (second_of seen m s at) k n
+-- a visibility word ends at n, which is `at` where none stands
+abbrev pub VisibleIs : List ℕ → ℕ → ℕ → Type 0
+VisibleIs s at n = Stops s at (visibility s at) (ltb at n) n
 
 -- what stands behind the inputs. Order 2: "After a function's inputs, at most one of these and at most one mutability word may stand"; the other
 -- keywords have no visibility words
@@ -123,8 +116,8 @@ stated_of key.Constructor s at = option (words_of key.Constructor) (absent key.C
 stated_of key.Event s at = option (words_of key.Event) (absent key.Event) s at
 stated_of key.Error s at = option (words_of key.Error) (absent key.Error) s at
 
-abbrev pub StatedIs : List ℕ → ℕ → Keyword → ℕ → ℕ → Type 0
-StatedIs s at k m n = Stops s at (stated_of k s at) m n
+abbrev pub StatedIs : List ℕ → ℕ → Keyword → Stated → Type 0
+StatedIs s at k r = Stops s at (stated_of k s at) r.number r.next
 
 -- "and after it optionally `returns` with a list": only a function has outputs
 unfoldable pub outputs_of : Keyword → List ℕ → ℕ → Ans (List ℕ)
@@ -159,25 +152,43 @@ front_of k n m = head n (code_of k) ++ number_of k m
 unfoldable pub declaration_of : Keyword → ℕ → List ℕ → List ℕ
 declaration_of k m u = record_of 4 (code_of k) (number_of k m ++ u)
 
--- what follows the inputs, where u are the bytes of the name and the inputs
-unfoldable pub tail_of : Keyword → List ℕ → List ℕ → ℕ → Ans (List ℕ)
-tail_of k u s at =
-    then (stated_of k s at) (λ m n.
-    then (outputs_of k s n) (λ v p.
-    on_ans (λ _. declaration_of k m (u ++ v)) (end s p)))
+-- what stands between the keyword and the end: the number that is stated, and the records of the rest
+pub record Content : Type 0 where
+  pub number : ℕ
+  pub bytes : List ℕ
 
-pub record TailIs (s : List ℕ) (at : ℕ) (k : Keyword) (len : ℕ) (b b₁ : List ℕ) (r : Read) : Type 0 where
-  pub same : (u : List ℕ) → front_length k + length u ≡ len → r ≡ to_read (tail_of k u s at)
-  pub wrote : (b₀ u : List ℕ) → front_length k + length u ≡ len → Wrote (front_length k) b₀ b u → Wrote 0 b₀ b₁ (bytes_of (tail_of k u s at))
+unfoldable pub parts_of : Keyword → List ℕ → ℕ → Ans Content
+parts_of k s at =
+    then (name_of k s at) (λ u n.
+    then (list_in (sort_of k) s n) (λ v p.
+    then (stated_of k s p) (λ m q.
+    on_ans (λ w. record { number = m; bytes = (u ++ v) ++ w }) (outputs_of k s q))))
+
+-- what the cases of an answer say, and the bytes that are written
+unfoldable pub to_parts : Ans Content → Result Written Failed
+to_parts (got c n) = Ok (record { number = c.number; next = n; len = length c.bytes })
+to_parts (bad w p) = Err (bad_at w p)
+to_parts (deep p) = Err (Deep p)
+
+unfoldable pub parts_bytes : Ans Content → List ℕ
+parts_bytes (got c n) = c.bytes
+parts_bytes (bad w p) = []
+parts_bytes (deep p) = []
+
+abbrev pub PartsWithin : List ℕ → ℕ → Result Written Failed → Type 0
+PartsWithin s at (Ok g) = (at ≤ g.next) × (g.next ≤ length s) × (g.len + 10 * at ≤ 10 * g.next + 6)
+PartsWithin s at (Err f) = Unit {0}
+
+pub record PartsAre (s : List ℕ) (at : ℕ) (k : Keyword) (b : List ℕ) (r : Result Written Failed) : Type 0 where
+  pub same : r ≡ to_parts (parts_of k s at)
+  pub within : PartsWithin s at r
+  pub wrote : Begins b (parts_bytes (parts_of k s at))
 
 -- what follows the keyword
 unfoldable pub body_of : Keyword → List ℕ → ℕ → Ans (List ℕ)
-body_of k s at =
-    then (name_of k s at) (λ u n.
-    then (list_in (sort_of k) s n) (λ v p.
-    tail_of k (u ++ v) s p))
+body_of k s at = then (parts_of k s at) (λ c n. on_ans (λ _. declaration_of k c.number c.bytes) (end s n))
 
 -- a record that is written from the beginning
-pub record Whole (b₀ b : List ℕ) (a : Ans (List ℕ)) (r : Read) : Type 0 where
+pub record Whole (b : List ℕ) (a : Ans (List ℕ)) (r : Read) : Type 0 where
   pub same : r ≡ to_read a
-  pub wrote : Wrote 0 b₀ b (bytes_of a)
+  pub wrote : Begins b (bytes_of a)

@@ -1,187 +1,184 @@
-// A declaration, read part by part into scratch: the keyword, the name, the inputs, the words behind them, the outputs and the end.
+// A declaration, read part by part into scratch: the keyword, the name, the inputs, the words behind them, the outputs and the end. As in fields, a
+// reader is lent the buffer from where its record begins.
 #![tactic(auto)]
 
-ghost use Rattle.std.specs.Prelude.{◌≡◌, [], ◌+◌, ◌≤◌, length};
-ghost use Rattle.kinds.specs.Bytes.{same};
-ghost use Rattle.model.specs.Parser.{on_ans, end};
-ghost use Rattle.model.specs.Reading.{keyword_text, exec, parser_of};
+ghost use Rattle.std.specs.Prelude.{◌≡◌, ◌≤◌, ◌<◌, length};
+ghost use Rattle.kinds.specs.Bytes.{ascii};
+ghost use Rattle.model.specs.KindText.{lookup};
+ghost use Rattle.model.specs.Parser.{on_ans, keyword, end};
+ghost use Rattle.model.specs.Reading.{keyword_text, mutabilities, exec, parser_of};
 ghost use Rattle.model.specs.Record.{encode};
-ghost use Rattle.text.specs.Found.{Skipped};
-ghost use Rattle.fields.specs.Words.{Looked};
+ghost use Rattle.text.specs.Found.{byte_or_end};
 ghost use Rattle.fields.specs.Scratch.{Room};
 ghost use Rattle.layout.specs.Buffer.{put};
-ghost use Rattle.parser.specs.Stages.{Did, Took, sort_of, stated_by, absent, OptionIs, is_visibility, begins_modifier, VisibleIs, SecondIs, StatedIs, name_of, outputs_of, ident_of, list_in, returns_of, keyword_is, front_length, front_of, TailIs, body_of, Whole};
+ghost use Rattle.parser.specs.Stages.{Did, Took, sort_of, words_of, absent, OptionIs, is_visibility, begins_modifier, ModifierIs, VisibleIs, StatedIs, name_of, outputs_of, ident_of, list_in, returns_of, front_length, code_of, front_of, PartsAre, body_of, Whole};
 
-use fields::{Read, Seen};
-use model::{Keyword, Refusal, Sort};
+use fields::{Failed, Got, Read, Word};
+use layout::{CONSTRUCTOR, ERROR, EVENT, FUNCTION, HEAD, LIST, NAME, NUMBERED};
+use model::{Keyword, Refusal, Refused, Sort};
 
-// Whether a word is a keyword.
-fn is_keyword(k: Keyword, w: &[u8]) -> bool
-    ensures { result ≡ same (keyword_text k) w.now }
+// "one of the four keywords"
+#[tactic(auto, unfolding(model::specs::Reading::keyword_text))]
+pub fn keyword_text(k: Keyword) -> &'static [u8]
+    ensures { result.now ≡ keyword_text k }
 {
     match k {
-        Keyword::Function => text::equal(b"function", w),
-        Keyword::Constructor => text::equal(b"constructor", w),
-        Keyword::Event => text::equal(b"event", w),
-        Keyword::Error => text::equal(b"error", w),
+        Keyword::Function => b"function",
+        Keyword::Constructor => b"constructor",
+        Keyword::Event => b"event",
+        Keyword::Error => b"error",
     }
 }
 
-// `keyword`, at the beginning of the text.
-fn keyword(s: &[u8], k: Keyword) -> Read
-    ensures { Took s.now 5 (keyword_is k s.now) result }
+// `keyword`, at the beginning of the text: the place behind it.
+fn keyword(s: &[u8], k: Keyword) -> Result<usize, Refused>
+    ensures { Took s.now 5 (keyword (keyword_text k) s.now 0) result }
 {
-    let a = text::skip(s, 0);
-    let e = fields::word_end(s, a);
-    if is_keyword(k, &s[a..e]) {
-        return Read::Got { next: e, len: 0 };
+    let word = fields::next_word(s, 0);
+    if text::equal(keyword_text(k), word.bytes) {
+        return Ok(word.next);
     }
-    Read::Bad {
-        refusal: Refusal::ExpectKeyword,
-        at: 0,
-    }
+    Err(Refusal::ExpectKeyword.into())
 }
 
 // `ident`, with its record.
-fn ident(s: &[u8], at: usize, out: &mut [u8], o: usize) -> Read
-    requires { Room 0 32 s.now at o out.old }
-    ensures { Did 0 s.now at o out.old out.new (ident_of s.now at) result }
+fn ident(s: &[u8], at: usize, out: &mut [u8]) -> Read
+    requires { Room 0 32 s.now at out.old }
+    ensures { Did 0 s.now at out.new (ident_of s.now at) result }
 {
-    let a = text::skip(s, at);
-    let e = fields::word_end(s, a);
-    if a == e {
-        return Read::Bad {
+    let word = fields::next_word(s, at);
+    if word.bytes.is_empty() {
+        return Err(Failed::Bad(Refused {
             refusal: Refusal::ExpectIdentifier,
-            at,
-        };
+            position: at,
+        }));
     }
-    let m = e - a;
-    layout::header(out, o, 6 + m, 17);
-    layout::copy(out, o + 6, &s[a..e]);
-    Read::Got {
-        next: e,
-        len: 6 + m,
-    }
+    let len = HEAD + word.bytes.len();
+    layout::header(out, 0, len, NAME as u16);
+    layout::copy(out, HEAD, word.bytes);
+    Ok(Got {
+        next: word.next,
+        len,
+    })
 }
 
-// `fields`: a list from its `(`, which was looked for at `at`, with its record.
-fn field_list(s: &[u8], at: usize, v: Seen, sort: Sort, out: &mut [u8], o: usize) -> Read
-    requires room { Room 0 32 s.now at o out.old }
-    requires look { Looked s.now at v.at v.byte }
-    ensures { Did 0 s.now at o out.old out.new (list_in sort s.now at) result }
+// How many tuples may be open at once: "32 nested tuples read".
+const DEEPEST: usize = 32;
+
+// `fields`: a list from its `(`, with its record.
+fn field_list(s: &[u8], at: usize, sort: Sort, out: &mut [u8]) -> Read
+    requires { Room 0 32 s.now at out.old }
+    ensures { Did 0 s.now at out.new (list_in sort s.now at) result }
 {
-    if v.byte == 40 {
-        let r = fields::list(s, v.at + 1, sort, 32, out, o + 6);
-        return match r {
-            Read::Got { next, len } => {
-                layout::header(out, o, 6 + len, 18);
-                Read::Got { next, len: 6 + len }
-            }
-            Read::Bad { refusal: w, at: x } => Read::Bad { refusal: w, at: x },
-            Read::Deep { at: x } => Read::Deep { at: x },
-        };
-    }
-    if v.byte == 256 {
-        return Read::Bad {
-            refusal: Refusal::Eos,
-            at: v.at,
-        };
-    }
-    Read::Bad {
-        refusal: Refusal::ExpectOpen,
-        at: v.at,
-    }
+    let from = fields::look(s, at).take(b'(', Refusal::ExpectOpen)?;
+    let list = fields::list(s, from, sort, DEEPEST, &mut out[HEAD..])?;
+    let len = HEAD + list.len;
+    layout::header(out, 0, len, LIST as u16);
+    Ok(Got {
+        next: list.next,
+        len,
+    })
 }
 
 // `returns`: its list, or the record of an empty one.
-fn returns(s: &[u8], at: usize, out: &mut [u8], o: usize) -> Read
-    requires { Room 0 33 s.now at o out.old }
-    ensures { Did 6 s.now at o out.old out.new (returns_of s.now at) result }
+fn returns(s: &[u8], at: usize, out: &mut [u8]) -> Read
+    requires { Room 0 33 s.now at out.old }
+    ensures { Did 6 s.now at out.new (returns_of s.now at) result }
 {
-    let a = text::skip(s, at);
-    let e = fields::word_end(s, a);
-    if text::equal(b"returns", &s[a..e]) {
-        return field_list(s, e, fields::look(s, e), Sort::Parameter, out, o);
+    let word = fields::next_word(s, at);
+    if text::equal(b"returns", word.bytes) {
+        return field_list(s, word.next, Sort::Parameter, out);
     }
-    layout::header(out, o, 6, 18);
-    Read::Got { next: at, len: 6 }
+    layout::header(out, 0, HEAD, LIST as u16);
+    Ok(Got {
+        next: at,
+        len: HEAD,
+    })
 }
 
 // `end`: at most one `;`, then blanks only.
-fn end(s: &[u8], at: usize) -> Read
+fn end(s: &[u8], at: usize) -> Result<usize, Refused>
     requires { at ≤ length s.now }
-    ensures { Took s.now at (on_ans (λ _. []) (end s.now at)) result }
+    ensures { Took s.now at (end s.now at) result }
 {
-    let v = fields::look(s, at);
-    if v.byte == 59 {
-        let u = fields::look(s, v.at + 1);
-        if u.byte == 256 {
-            return Read::Got { next: u.at, len: 0 };
-        }
-        return Read::Bad {
+    let first = fields::look(s, at);
+    let last = match first.behind(b';') {
+        Some(next) => fields::look(s, next),
+        None => first,
+    };
+    if last.byte.is_some() {
+        return Err(Refused {
             refusal: Refusal::ExpectEnd,
-            at: u.at,
-        };
+            position: last.at,
+        });
     }
-    if v.byte == 256 {
-        return Read::Got { next: v.at, len: 0 };
-    }
-    Read::Bad {
-        refusal: Refusal::ExpectEnd,
-        at: v.at,
-    }
+    Ok(last.at)
 }
 
 // The sort of the inputs.
+#[tactic(auto, unfolding(crate::specs::Stages::sort_of))]
 fn sort_of(k: Keyword) -> Sort
     ensures { result ≡ sort_of k }
 {
     match k {
-        Keyword::Function => Sort::Parameter,
-        Keyword::Constructor => Sort::Parameter,
+        Keyword::Function | Keyword::Constructor => Sort::Parameter,
         Keyword::Event => Sort::Event,
         Keyword::Error => Sort::Plain,
     }
 }
 
-// The number of a word that has none.
-const NO_WORD: usize = 256;
+// What may be stated behind the inputs, by the numbers that stand in a record: a function's or a constructor's mutability, and whether an event
+// is anonymous. Numbers, since nothing is asked of one but to be written.
+const PURE: usize = 0;
 
-// The number that a word behind the inputs stands for, and NO_WORD if none.
-fn stated_by(k: Keyword, w: &[u8]) -> usize
-    ensures { result ≡ stated_by k w.now }
+const VIEW: usize = 1;
+
+const NOT_STATED: usize = 2;
+
+const PAYABLE: usize = 3;
+
+const NAMED: usize = 0;
+
+const ANONYMOUS: usize = 1;
+
+// The number that a word behind a function's inputs stands for.
+fn mutability(word: &[u8]) -> Option<usize>
+    ensures { result ≡ lookup mutabilities word.now }
 {
-    match k {
-        Keyword::Function => {
-            if text::equal(b"pure", w) {
-                return 0;
-            }
-            if text::equal(b"view", w) {
-                return 1;
-            }
-            if text::equal(b"payable", w) {
-                return 3;
-            }
-            NO_WORD
-        }
-        Keyword::Constructor => {
-            if text::equal(b"payable", w) {
-                return 3;
-            }
-            NO_WORD
-        }
-        Keyword::Event => {
-            if text::equal(b"anonymous", w) {
-                return 1;
-            }
-            NO_WORD
-        }
-        Keyword::Error => NO_WORD,
+    match word {
+        b"pure" => Some(PURE),
+        b"view" => Some(VIEW),
+        b"payable" => Some(PAYABLE),
+        _ => None,
     }
 }
 
-// What stands behind the inputs: its number, or the one that stands for none, and the place behind it.
-#[derive(Clone, Copy)]
+// The same by the keyword.
+#[tactic(auto, unfolding(crate::specs::Stages::words_of))]
+fn stated_by(k: Keyword, word: &[u8]) -> Option<usize>
+    ensures { result ≡ lookup (words_of k) word.now }
+{
+    match k {
+        Keyword::Function => mutability(word),
+        Keyword::Constructor => text::equal(b"payable", word).then_some(PAYABLE),
+        Keyword::Event => text::equal(b"anonymous", word).then_some(ANONYMOUS),
+        Keyword::Error => None,
+    }
+}
+
+// And the one that stands for no word.
+#[tactic(auto, unfolding(crate::specs::Stages::absent))]
+fn absent(k: Keyword) -> usize
+    ensures { result ≡ absent k }
+{
+    match k {
+        Keyword::Function | Keyword::Constructor => NOT_STATED,
+        Keyword::Event | Keyword::Error => NAMED,
+    }
+}
+
+// What is stated behind the inputs, and the place behind it.
+#[derive(Clone, Copy, Debug, PartialEq, Eq)]
 pub struct Stated {
     pub number: usize,
     pub next: usize,
@@ -189,171 +186,136 @@ pub struct Stated {
 
 fn option(s: &[u8], at: usize, k: Keyword) -> Stated
     requires { at ≤ length s.now }
-    ensures { OptionIs s.now at k result.number result.next }
+    ensures { OptionIs s.now at k result }
 {
-    let a = text::skip(s, at);
-    let e = fields::word_end(s, a);
-    let m = stated_by(k, &s[a..e]);
-    if m == NO_WORD {
-        return Stated {
+    let word = fields::next_word(s, at);
+    match stated_by(k, word.bytes) {
+        Some(number) => Stated {
+            number,
+            next: word.next,
+        },
+        None => Stated {
             number: absent(k),
             next: at,
-        };
-    }
-    Stated { number: m, next: e }
-}
-
-fn absent(k: Keyword) -> usize
-    ensures { result ≡ absent k }
-{
-    match k {
-        Keyword::Function => 2,
-        Keyword::Constructor => 2,
-        Keyword::Event => 0,
-        Keyword::Error => 0,
+        },
     }
 }
 
-// Whether a word is a visibility word.
-fn is_visibility(w: &[u8]) -> bool
-    ensures { result ≡ is_visibility w.now }
+#[tactic(auto, unfolding(crate::specs::Stages::is_visibility))]
+fn is_visibility(word: &[u8]) -> bool
+    ensures { result ≡ is_visibility word.now }
 {
-    if text::equal(b"external", w) {
-        return true;
-    }
-    text::equal(b"public", w)
+    matches!(word, b"external" | b"public")
 }
 
 // Whether a byte is the first of a visibility word or a mutability word.
-fn begins_modifier(c: u16) -> bool
-    ensures { result ≡ begins_modifier c }
+#[tactic(auto, unfolding(text::specs::Found::byte_or_end))]
+fn begins_modifier(byte: Option<u8>) -> bool
+    ensures { result ≡ begins_modifier (byte_or_end byte) }
 {
-    if c == b'e' as u16 {
-        return true;
-    }
-    if c == b'p' as u16 {
-        return true;
-    }
-    c == b'v' as u16
+    matches!(byte, Some(b'e' | b'p' | b'v'))
 }
 
-// `visibility`: the place behind the word, and `at` where none stands. Most other words are told by their first byte.
+// The word behind any blanks, if it may be a visibility word or a mutability word: most other words are told by their first byte.
+fn modifier(s: &[u8], at: usize) -> Option<Word<'_>>
+    requires { at ≤ length s.now }
+    ensures { ModifierIs s.now at result }
+{
+    if begins_modifier(fields::look(s, at).byte) {
+        return Some(fields::next_word(s, at));
+    }
+    None
+}
+
+// `visibility`: the place behind the word, and `at` where none stands. Nothing else is kept of it.
 fn visibility(s: &[u8], at: usize) -> usize
     requires { at ≤ length s.now }
     ensures { VisibleIs s.now at result }
 {
-    let a = text::skip(s, at);
-    if begins_modifier(text::peek(s, a)) {
-        let e = fields::word_end(s, a);
-        if is_visibility(&s[a..e]) {
-            return e;
-        }
-        return at;
-    }
-    at
-}
-
-// A second word, behind a first one that ends at `at`: a mutability word behind a visibility word, and the other way round, where m is stated
-// so far. Of a visibility word nothing is kept.
-fn second(s: &[u8], at: usize, seen: bool, m: usize) -> Stated
-    requires { at ≤ length s.now }
-    ensures { SecondIs s.now at seen m result.number result.next }
-{
-    if seen {
-        return option(s, at, Keyword::Function);
-    }
-    Stated {
-        number: m,
-        next: visibility(s, at),
+    match modifier(s, at) {
+        Some(word) if is_visibility(word.bytes) => word.next,
+        _ => at,
     }
 }
 
-// "2 none stated"
-const NOT_STATED: usize = 2;
-
-// `modifiers`, by the word that stands behind the blanks, at a.
-fn modifiers_from(s: &[u8], at: usize, a: usize) -> Stated
-    requires inside { at ≤ length s.now }
-    requires place { Skipped s.now at a }
-    ensures { StatedIs s.now at Keyword.Function result.number result.next }
-{
-    let e = fields::word_end(s, a);
-    let m = stated_by(Keyword::Function, &s[a..e]);
-    if m == NO_WORD {
-        if is_visibility(&s[a..e]) {
-            return second(s, e, true, NOT_STATED);
-        }
-        return Stated {
-            number: NOT_STATED,
-            next: at,
-        };
-    }
-    second(s, e, false, m)
-}
-
-// `modifiers`: where no such word stands, a look at one byte is enough.
+// `modifiers`: a visibility word and a mutability word, in either order.
 fn modifiers(s: &[u8], at: usize) -> Stated
     requires { at ≤ length s.now }
-    ensures { StatedIs s.now at Keyword.Function result.number result.next }
+    ensures { StatedIs s.now at Keyword.Function result }
 {
-    let a = text::skip(s, at);
-    if begins_modifier(text::peek(s, a)) {
-        return modifiers_from(s, at, a);
-    }
-    Stated {
+    let none = Stated {
         number: NOT_STATED,
         next: at,
+    };
+    let Some(word) = modifier(s, at) else {
+        return none;
+    };
+    if is_visibility(word.bytes) {
+        return option(s, word.next, Keyword::Function);
+    }
+    match mutability(word.bytes) {
+        Some(number) => Stated {
+            number,
+            next: visibility(s, word.next),
+        },
+        None => none,
     }
 }
 
 // What stands behind the inputs, before the outputs.
 fn words(s: &[u8], at: usize, k: Keyword) -> Stated
     requires { at ≤ length s.now }
-    ensures { StatedIs s.now at k result.number result.next }
+    ensures { StatedIs s.now at k result }
 {
     match k {
         Keyword::Function => modifiers(s, at),
-        Keyword::Constructor => option(s, at, k),
-        Keyword::Event => option(s, at, k),
-        Keyword::Error => option(s, at, k),
+        Keyword::Constructor | Keyword::Event | Keyword::Error => option(s, at, k),
     }
 }
 
 // The name, which a constructor has not.
-fn name(s: &[u8], at: usize, k: Keyword, out: &mut [u8], o: usize) -> Read
-    requires { Room 0 32 s.now at o out.old }
-    ensures { Did 0 s.now at o out.old out.new (name_of k s.now at) result }
+fn name(s: &[u8], at: usize, k: Keyword, out: &mut [u8]) -> Read
+    requires { Room 0 32 s.now at out.old }
+    ensures { Did 0 s.now at out.new (name_of k s.now at) result }
 {
     match k {
-        Keyword::Function => ident(s, at, out, o),
-        Keyword::Constructor => Read::Got { next: at, len: 0 },
-        Keyword::Event => ident(s, at, out, o),
-        Keyword::Error => ident(s, at, out, o),
+        Keyword::Constructor => Ok(Got { next: at, len: 0 }),
+        Keyword::Function | Keyword::Event | Keyword::Error => ident(s, at, out),
     }
 }
 
 // The outputs, which only a function has.
-fn outputs(s: &[u8], at: usize, k: Keyword, out: &mut [u8], o: usize) -> Read
-    requires { Room 0 33 s.now at o out.old }
-    ensures { Did 6 s.now at o out.old out.new (outputs_of k s.now at) result }
+fn outputs(s: &[u8], at: usize, k: Keyword, out: &mut [u8]) -> Read
+    requires { Room 0 33 s.now at out.old }
+    ensures { Did 6 s.now at out.new (outputs_of k s.now at) result }
 {
     match k {
-        Keyword::Function => returns(s, at, out, o),
-        Keyword::Constructor => Read::Got { next: at, len: 0 },
-        Keyword::Event => Read::Got { next: at, len: 0 },
-        Keyword::Error => Read::Got { next: at, len: 0 },
+        Keyword::Function => returns(s, at, out),
+        Keyword::Constructor | Keyword::Event | Keyword::Error => Ok(Got { next: at, len: 0 }),
     }
 }
 
 // How long the front of a record is: its head and, but for an error, a number.
+#[tactic(auto, unfolding(crate::specs::Stages::front_length))]
 fn front_length(k: Keyword) -> usize
     ensures { (result ≡ front_length k) × (result ≤ 8) }
 {
     match k {
-        Keyword::Function => 8,
-        Keyword::Constructor => 8,
-        Keyword::Event => 8,
-        Keyword::Error => 6,
+        Keyword::Function | Keyword::Constructor | Keyword::Event => NUMBERED,
+        Keyword::Error => HEAD,
+    }
+}
+
+// The kind of record.
+#[tactic(auto, unfolding(crate::specs::Stages::code_of))]
+fn code(k: Keyword) -> usize
+    ensures { (result ≡ code_of k) × (result < 256) }
+{
+    match k {
+        Keyword::Function => FUNCTION,
+        Keyword::Constructor => CONSTRUCTOR,
+        Keyword::Event => EVENT,
+        Keyword::Error => ERROR,
     }
 }
 
@@ -362,82 +324,55 @@ fn front(out: &mut [u8], k: Keyword, n: usize, m: usize)
     requires { 8 ≤ length out.old }
     ensures { out.new ≡ put 0 (front_of k n m) out.old }
 {
-    match k {
-        Keyword::Function => {
-            layout::header(out, 0, n, 32);
-            layout::put2(out, 6, m);
-        }
-        Keyword::Constructor => {
-            layout::header(out, 0, n, 33);
-            layout::put2(out, 6, m);
-        }
-        Keyword::Event => {
-            layout::header(out, 0, n, 34);
-            layout::put2(out, 6, m);
-        }
-        Keyword::Error => {
-            layout::header(out, 0, n, 35);
-        }
+    layout::header(out, 0, n, code(k) as u16);
+    if k != Keyword::Error {
+        layout::put2(out, HEAD, m);
     }
 }
 
-// What follows the inputs, and the front of the record, of which len bytes are written.
-fn tail(s: &[u8], at: usize, k: Keyword, out: &mut [u8], len: usize) -> Read
-    requires { Room 0 34 s.now at len out.old }
-    ensures { TailIs s.now at k len out.old out.new result }
+// What stands between the keyword and the end: the number that is stated, and how many bytes the records of the rest take.
+#[derive(Clone, Copy, Debug, PartialEq, Eq)]
+pub struct Written {
+    pub number: usize,
+    pub next: usize,
+    pub len: usize,
+}
+
+// The name, the inputs, the words behind them and the outputs.
+fn parts(s: &[u8], at: usize, k: Keyword, out: &mut [u8]) -> Result<Written, Failed>
+    requires { Room 0 35 s.now at out.old }
+    ensures { PartsAre s.now at k out.new result }
 {
-    let m = words(s, at, k);
-    let r = outputs(s, m.next, k, out, len);
-    match r {
-        Read::Got { next, len: l } => {
-            let e = end(s, next);
-            match e {
-                Read::Got { next: n, len: _ } => {
-                    front(out, k, len + l, m.number);
-                    Read::Got {
-                        next: n,
-                        len: len + l,
-                    }
-                }
-                Read::Bad { refusal: w, at: x } => Read::Bad { refusal: w, at: x },
-                Read::Deep { at: x } => Read::Deep { at: x },
-            }
-        }
-        Read::Bad { refusal: w, at: x } => Read::Bad { refusal: w, at: x },
-        Read::Deep { at: x } => Read::Deep { at: x },
-    }
+    let name = name(s, at, k, out)?;
+    let inputs = field_list(s, name.next, sort_of(k), &mut out[name.len..])?;
+    let stated = words(s, inputs.next, k);
+    let len = name.len + inputs.len;
+    let outputs = outputs(s, stated.next, k, &mut out[len..])?;
+    Ok(Written {
+        number: stated.number,
+        next: outputs.next,
+        len: len + outputs.len,
+    })
 }
 
-// What follows the keyword.
+// What follows the keyword. The front is written last, since the length stands in it.
 fn body(s: &[u8], at: usize, k: Keyword, out: &mut [u8]) -> Read
-    requires { Room 0 36 s.now at 0 out.old }
-    ensures { Whole out.old out.new (body_of k s.now at) result }
+    requires { Room 0 36 s.now at out.old }
+    ensures { Whole out.new (body_of k s.now at) result }
 {
-    let o = front_length(k);
-    let a = name(s, at, k, out, o);
-    match a {
-        Read::Got { next: p, len: n } => {
-            let b = field_list(s, p, fields::look(s, p), sort_of(k), out, o + n);
-            match b {
-                Read::Got { next: q, len: i } => tail(s, q, k, out, o + n + i),
-                Read::Bad { refusal: w, at: x } => Read::Bad { refusal: w, at: x },
-                Read::Deep { at: x } => Read::Deep { at: x },
-            }
-        }
-        Read::Bad { refusal: w, at: x } => Read::Bad { refusal: w, at: x },
-        Read::Deep { at: x } => Read::Deep { at: x },
-    }
+    let from = front_length(k);
+    let parts = parts(s, at, k, &mut out[from..])?;
+    let next = end(s, parts.next)?;
+    let len = from + parts.len;
+    front(out, k, len, parts.number);
+    Ok(Got { next, len })
 }
 
 // A whole text, whose keyword is k.
 pub fn exec(s: &[u8], k: Keyword, out: &mut [u8]) -> Read
-    requires { Room 0 32 s.now 0 0 out.old }
-    ensures { Whole out.old out.new (on_ans (encode 4) (exec (parser_of k) s.now)) result }
+    requires { Room 0 32 s.now 0 out.old }
+    ensures { Whole out.new (on_ans (encode 4) (exec (parser_of k) s.now)) result }
 {
-    let r = keyword(s, k);
-    match r {
-        Read::Got { next, len: _ } => body(s, next, k, out),
-        Read::Bad { refusal: w, at: x } => Read::Bad { refusal: w, at: x },
-        Read::Deep { at: x } => Read::Deep { at: x },
-    }
+    let at = keyword(s, k)?;
+    body(s, at, k, out)
 }

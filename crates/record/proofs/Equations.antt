@@ -3,7 +3,8 @@
 use mathlib.Core.Path.{◌≡◌, refl, sym, ◌∙◌, ap}
 use mathlib.Core.Bool.{Bool, true, false, ◌&&◌}
 use mathlib.Core.List.{List, [], ◌∷◌, ◌++◌, append-nil, append_assoc}
-use mathlib.Core.Option.{Option, none, some, none-ne-some, some-injective}
+use Rattle.std.specs.Prelude.{Option, None, Some}
+use Rattle.std.proofs.lemmas.Option.{none-some, same_Some}
 use Prim.Native.Nat.{ℕ, zero, suc, ◌+◌, ◌-◌, ◌≤◌, ◌<◌}
 use native.Mathlib.Omega.{arith}
 use native.Mathlib.Numerals.{sub-one}
@@ -49,9 +50,9 @@ kind-full (tuple ks) = omega arith
 kind-full (array k s) = omega (arith, length-append (kind_text k) (suffix_text s), kind-full k)
 
 -- what a text that was put together from what was read is
-on-full : {A : Type 0} (text : A → List ℕ) → ((a : A) → 0 < length (text a)) → (o : Option A) (u : List ℕ) → on_option text o ≡ some u → 0 < length u
-on-full text h none u e = absurd (none-ne-some u e)
-on-full text h (some a) u e = rw (← (some-injective _ _ e)) (h a)
+on-full : {A : Type 0} (text : A → List ℕ) → ((a : A) → 0 < length (text a)) → (o : Option A) (u : List ℕ) → on_option text o ≡ Some u → 0 < length u
+on-full text h None u e = absurd (none-some u e)
+on-full text h (Some a) u e = rw (← (same_Some _ _ e)) (h a)
 
 -- suffixes, at most k
 unfoldable pub suffixes_in : ℕ → List ℕ → Option (List ℕ)
@@ -95,9 +96,9 @@ module _ (sort : Sort) (d : ℕ) (b : List ℕ) where
   brackets : (o : Option Fields) (n : ℕ) → n + 1 ≡ measured (on_option (λ fs. rest_text (kinds_of fs)) o)
       → (n ≡ 0 → 2 ≡ measured (on_option (λ fs. kind_text (tuple (kinds_of fs))) o)) × ((n ≡ 0 → ⊥) → n + 1 ≡ measured (on_option (λ fs. kind_text (tuple (kinds_of fs))) o))
   unfolding measured kinds_of rest_text kind_text
-  brackets none n e = absurd (omega arith)
-  brackets (some no_field) n e = (λ z. refl, λ z. absurd (z (omega arith)))
-  brackets (some (more_fields f fs)) n e = (λ z. absurd (omega (arith, kind-full (kind_of f), length-append (kind_text (kind_of f)) (rest_text (kinds_of fs)))), λ z. e)
+  brackets None n e = absurd (omega arith)
+  brackets (Some no_field) n e = (λ z. refl, λ z. absurd (z (omega arith)))
+  brackets (Some (more_fields f fs)) n e = (λ z. absurd (omega (arith, kind-full (kind_of f), length-append (kind_text (kind_of f)) (rest_text (kinds_of fs)))), λ z. e)
 
   pub tuple-empty : (n : ℕ) → n + 1 ≡ measured (fields_in sort d (length b) b) → n ≡ 0 → 2 ≡ measured (tuple_text_from sort d b)
   unfolding fields_in tuple_text_from fields_from
@@ -112,17 +113,17 @@ module _ (sort : Sort) (d : ℕ) (b : List ℕ) where
   tuple-none e = go (fields_from sort d b) e
     where
       go : (o : Option Fields) → 0 ≡ measured (on_option (λ fs. rest_text (kinds_of fs)) o) → 0 ≡ measured (on_option (λ fs. kind_text (tuple (kinds_of fs))) o)
-      go none q = refl
-      go (some no_field) q = absurd (omega arith)
-      go (some (more_fields f fs)) q = absurd (omega arith)
+      go None q = refl
+      go (Some no_field) q = absurd (omega arith)
+      go (Some (more_fields f fs)) q = absurd (omega arith)
 
-  pub tuple-full : (u : List ℕ) → tuple_text_from sort d b ≡ some u → 0 < length u
+  pub tuple-full : (u : List ℕ) → tuple_text_from sort d b ≡ Some u → 0 < length u
   unfolding tuple_text_from
   tuple-full u e = on-full (λ fs. kind_text (tuple (kinds_of fs))) (λ fs. kind-full (tuple (kinds_of fs))) (fields_from sort d b) u e
 
 -- a base: a tuple, or an elementary kind
 module _ (d k : ℕ) (body : List ℕ) where
-  pub base-deep : k ≡ 9 → d ≡ 0 → base_text_from d k body ≡ none
+  pub base-deep : k ≡ 9 → d ≡ 0 → base_text_from d k body ≡ None
   unfolding base_text_from base_from tuple_from
   base-deep e z = rw (e, z)
 
@@ -135,18 +136,18 @@ module _ (d k : ℕ) (body : List ℕ) where
       go (suc d) z = rw sub-one (inner (fields_from Plain d body))
         where
           inner : (o : Option Fields) → on_option (λ b. kind_text (base_kind b)) (on_option Base.tuple o) ≡ on_option (λ fs. kind_text (tuple (kinds_of fs))) o
-          inner none = refl
-          inner (some fs) = refl
+          inner None = refl
+          inner (Some fs) = refl
 
   pub base-elementary : (k ≡ 9 → ⊥) → base_text_from d k body ≡ elementary_from k body
   unfolding base_text_from base_from elementary_from base_kind kind_text
   base-elementary z = rw (base_text_from, base_from, ne_eqb k 9 z) (inner (decode_elementary k body))
     where
       inner : (o : Option Elementary) → on_option (λ b. kind_text (base_kind b)) (on_option Base.elementary o) ≡ on_option elementary_text o
-      inner none = refl
-      inner (some e) = refl
+      inner None = refl
+      inner (Some e) = refl
 
-  pub elementary-filled : (u : List ℕ) → elementary_from k body ≡ some u → 0 < length u
+  pub elementary-filled : (u : List ℕ) → elementary_from k body ≡ Some u → 0 < length u
   unfolding elementary_from
   elementary-filled u e = on-full elementary_text elementary-full (decode_elementary k body) u e
 
@@ -157,28 +158,28 @@ arrays-text k [] = sym (append-nil (kind_text k))
 arrays-text k (s ∷ ss) = arrays-text (array k s) ss ∙ append_assoc (kind_text k) (suffix_text s) (suffixes_text ss)
 
 -- a field: its mark, its name, and then its kind
-when-none : {A : Type 0} (t : Bool) → none ≡ when {A = A} t none
+when-none : {A : Type 0} (t : Bool) → None ≡ when {A = A} t None
 when-none true = refl
 when-none false = refl
 
 module _ (m : ℕ) (nm : List ℕ) (t : Bool) where
-  suffixed : (b : Base) (o : Option (List Suffix)) → on_option field_text (given o (λ ss. when t (some (field m nm b ss)))) ≡ when t (on_option (λ v. kind_text (base_kind b) ++ v) (on_option suffixes_text o))
+  suffixed : (b : Base) (o : Option (List Suffix)) → on_option field_text (given o (λ ss. when t (Some (field m nm b ss)))) ≡ when t (on_option (λ v. kind_text (base_kind b) ++ v) (on_option suffixes_text o))
   unfolding field_text kind_of
-  suffixed b none = when-none t
-  suffixed b (some ss) = go t
+  suffixed b None = when-none t
+  suffixed b (Some ss) = go t
     where
-      go : (t : Bool) → on_option field_text (when t (some (field m nm b ss))) ≡ when t (some (kind_text (base_kind b) ++ suffixes_text ss))
-      go true = ap some (arrays-text (base_kind b) ss)
+      go : (t : Bool) → on_option field_text (when t (Some (field m nm b ss))) ≡ when t (Some (kind_text (base_kind b) ++ suffixes_text ss))
+      go true = ap Some (arrays-text (base_kind b) ss)
       go false = refl
 
   module _ (d : ℕ) where
-    based : (o : Option Base) (r : List ℕ) → on_option field_text (given o (λ b. given (decode_suffixes 4 r) (λ ss. when t (some (field m nm b ss)))))
+    based : (o : Option Base) (r : List ℕ) → on_option field_text (given o (λ b. given (decode_suffixes 4 r) (λ ss. when t (Some (field m nm b ss)))))
         ≡ when t (given (on_option (λ b. kind_text (base_kind b)) o) (λ u. on_option (λ v. u ++ v) (suffixes_from r)))
     unfolding suffixes_from
-    based none r = when-none t
-    based (some b) r = suffixed b (decode_suffixes 4 r)
+    based None r = when-none t
+    based (Some b) r = suffixed b (decode_suffixes 4 r)
 
-    pub kinded : (p : Piece) → on_option field_text (on_piece p (λ j base r. given (base_from (tuple_from 4 d) j base) (λ b. given (decode_suffixes 4 r) (λ ss. when t (some (field m nm b ss))))))
+    pub kinded : (p : Piece) → on_option field_text (on_piece p (λ j base r. given (base_from (tuple_from 4 d) j base) (λ b. given (decode_suffixes 4 r) (λ ss. when t (Some (field m nm b ss))))))
         ≡ when t (on_piece p (λ j base r. given (base_text_from d j base) (λ u. on_option (λ v. u ++ v) (suffixes_from r))))
     unfolding base_text_from
     kinded no_piece = when-none t
@@ -190,21 +191,21 @@ module _ (sort : Sort) (d : ℕ) where
 
   named : (m : ℕ) (p : Piece) → on_option field_text (of_kind 0x11 p (λ nm r₁.
       on_piece (piece_of 4 r₁) (λ j base r₂.
-      given (base_from (tuple_from 4 d) j base) (λ b. given (decode_suffixes 4 r₂) (λ ss. when (is_mark (marks sort (record { base = b; suffixes = ss })) m nm && is_field_name nm) (some (field m nm b ss)))))))
+      given (base_from (tuple_from 4 d) j base) (λ b. given (decode_suffixes 4 r₂) (λ ss. when (is_mark (marks sort (record { base = b; suffixes = ss })) m nm && is_field_name nm) (Some (field m nm b ss)))))))
       ≡ of_kind 0x11 p (λ nm r₁. when (is_mark_at sort r₁ m nm && is_field_name nm) (kind_from d r₁))
   unfolding kind_from located_from marks
   named m no_piece = refl
   named m (piece j nm r) = go (eqb j 0x11)
     where
       go : (t : Bool) → on_option field_text (elim t as (λ _. Option Field) [
-        | true ↦ on_piece (piece_of 4 r) (λ j base r₂. given (base_from (tuple_from 4 d) j base) (λ b. given (decode_suffixes 4 r₂) (λ ss. when (is_mark (marks sort (record { base = b; suffixes = ss })) m nm && is_field_name nm) (some (field m nm b ss)))))
-        | false ↦ none
+        | true ↦ on_piece (piece_of 4 r) (λ j base r₂. given (base_from (tuple_from 4 d) j base) (λ b. given (decode_suffixes 4 r₂) (λ ss. when (is_mark (marks sort (record { base = b; suffixes = ss })) m nm && is_field_name nm) (Some (field m nm b ss)))))
+        | false ↦ None
       ])
-          ≡ elim t as (λ _. Option (List ℕ)) [ true ↦ when (is_mark_at sort r m nm && is_field_name nm) (kind_from d r) | false ↦ none ]
+          ≡ elim t as (λ _. Option (List ℕ)) [ true ↦ when (is_mark_at sort r m nm && is_field_name nm) (kind_from d r) | false ↦ None ]
       go true = ap (on_option field_text) (located_same (tuple_from 4 d) (λ l. is_mark (marks_by sort l) m nm && is_field_name nm) m nm (piece_of 4 r)) ∙ kinded m nm (is_mark_at sort r m nm && is_field_name nm) d (piece_of 4 r)
       go false = refl
 
-  pub field-short : (body : List ℕ) → length body < 2 → field_text_from sort d 0x10 body ≡ none
+  pub field-short : (body : List ℕ) → length body < 2 → field_text_from sort d 0x10 body ≡ None
   unfolding field_text_from field_from
   field-short body h = rw (field_text_from, field_from, fronted, lt-leb 2 (length body) h)
 
@@ -212,6 +213,6 @@ module _ (sort : Sort) (d : ℕ) where
   unfolding field_text_from field_from
   field-named body h = rw (field_text_from, field_from, fronted, le-leb 2 (length body) h) (named (le_value (take 2 body)) (piece_of 4 (drop 2 body)))
 
-  pub field-other : (k : ℕ) (body : List ℕ) → (k ≡ 0x10 → ⊥) → field_text_from sort d k body ≡ none
+  pub field-other : (k : ℕ) (body : List ℕ) → (k ≡ 0x10 → ⊥) → field_text_from sort d k body ≡ None
   unfolding field_text_from field_from
   field-other k body h = rw (field_text_from, field_from, ne_eqb k 0x10 h)

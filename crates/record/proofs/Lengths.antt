@@ -3,7 +3,7 @@
 use mathlib.Core.Path.{◌≡◌, refl, sym, ◌∙◌, ap}
 use mathlib.Core.Bool.{Bool, true, false}
 use mathlib.Core.List.{List, [], ◌∷◌, ◌++◌}
-use mathlib.Core.Option.{Option, none, some}
+use Rattle.std.specs.Prelude.{Option, None, Some}
 use Prim.Native.Nat.{ℕ, ◌+◌, ◌/◌, ◌≤◌, ◌<◌}
 use native.Mathlib.Omega.{arith}
 use lib.Dec.{eqb}
@@ -13,14 +13,8 @@ use borrow.Author.Tests.{eq-eqb, ne_eqb, eqb-true}
 use Rattle.kinds.specs.Decimal.{decimal}
 use Rattle.kinds.specs.Kind.{BitWidth as KindWidth, bits, octets, is_bit_width, is_byte_length, Elementary, int, uint, fixed_bytes, elementary_text, suffix_text, sized, unsized}
 use Rattle.kinds.proofs.Decimal.{decimal-one, decimal-more, decimal-short}
-use Rattle.sizes.specs.declared.BitWidth.{BitWidth}
-use Rattle.sizes.specs.declared.ByteLength.{ByteLength}
-use Rattle.sizes.specs.declared.CheckedWidth.{CheckedWidth}
-use Rattle.sizes.specs.declared.CheckedWidth.TheVariants as width
-use Rattle.sizes.specs.declared.CheckedLength.{CheckedLength}
-use Rattle.sizes.specs.declared.CheckedLength.TheVariants as len
-use Rattle.sizes.specs.Checked.{checked, width_number, length_number, width_of, length_of}
-use Rattle.sizes.proofs.Checks.{checked-some, checked-none, width-there, no_width, length-there, no_length}
+use Rattle.sizes.specs.Checked.{checked}
+use Rattle.sizes.proofs.Checks.{checked-some, checked-none}
 use Rattle.model.specs.Layout.{le_value}
 use Rattle.model.specs.Record.{on_option, when, ended, wholly, Case, case, select, width_from, byte_length_from, elementary_cases, suffix_cases, decode_elementary, decode_suffix}
 use Rattle.model.proofs.Decoding.{Misses, select-other}
@@ -74,11 +68,11 @@ module _ (t : ℕ → Bool) (word : ℕ) (body : List ℕ) where
     all-of_it : le_value body ≡ n
     all-of_it = sym (e ∙ ap le_value (take_all 2 body (omega arith)))
 
-    numbered_no : checked t n ≡ none → 0 ≡ numbered t word body
+    numbered_no : checked t n ≡ None → 0 ≡ numbered t word body
     unfolding numbered
     numbered_no f = rw (numbered, eq-eqb (length body) 2 h, all-of_it, checked-none t n f)
 
-    numbered_yes : (v m : ℕ) → checked t n ≡ some v → m ≡ length (decimal v) → word + m ≡ numbered t word body
+    numbered_yes : (v m : ℕ) → checked t n ≡ Some v → m ≡ length (decimal v) → word + m ≡ numbered t word body
     unfolding numbered
     numbered_yes v m f g =
         let (p, q) = checked-some t n v f in
@@ -86,17 +80,17 @@ module _ (t : ℕ → Bool) (word : ℕ) (body : List ℕ) where
 
 -- the same by the checks
 module _ (word : ℕ) (body : List ℕ) (n : ℕ) (h : length body ≡ 2) (e : n ≡ le_value (take 2 (drop 0 body))) where
-  pub width_no : (c : CheckedWidth) → width_of c ≡ checked is_bit_width n → c ≡ width.Invalid → 0 ≡ numbered is_bit_width word body
-  width_no c f g = numbered_no is_bit_width word body n h e (no_width c n f g)
+  pub width_no : (c : Option ℕ) → c ≡ checked is_bit_width n → c ≡ None → 0 ≡ numbered is_bit_width word body
+  width_no c f g = numbered_no is_bit_width word body n h e (sym f ∙ g)
 
-  pub width_is : (c : CheckedWidth) (w : BitWidth) (v m : ℕ) → width_of c ≡ checked is_bit_width n → c ≡ width.Valid w → v ≡ width_number w → m ≡ length (decimal v) → word + m ≡ numbered is_bit_width word body
-  width_is c w v m f g i j = numbered_yes is_bit_width word body n h e v m (width-there c n f w v g i) j
+  pub width_is : (c : Option ℕ) (w : ℕ) (v m : ℕ) → c ≡ checked is_bit_width n → c ≡ Some w → v ≡ w → m ≡ length (decimal v) → word + m ≡ numbered is_bit_width word body
+  width_is c w v m f g i j = numbered_yes is_bit_width word body n h e v m (sym f ∙ g ∙ ap Some (sym i)) j
 
-  pub byte-length_no : (c : CheckedLength) → length_of c ≡ checked is_byte_length n → c ≡ len.Invalid → 0 ≡ numbered is_byte_length word body
-  byte-length_no c f g = numbered_no is_byte_length word body n h e (no_length c n f g)
+  pub byte-length_no : (c : Option ℕ) → c ≡ checked is_byte_length n → c ≡ None → 0 ≡ numbered is_byte_length word body
+  byte-length_no c f g = numbered_no is_byte_length word body n h e (sym f ∙ g)
 
-  pub byte-length-is : (c : CheckedLength) (l : ByteLength) (v m : ℕ) → length_of c ≡ checked is_byte_length n → c ≡ len.Valid l → v ≡ length_number l → m ≡ length (decimal v) → word + m ≡ numbered is_byte_length word body
-  byte-length-is c l v m f g i j = numbered_yes is_byte_length word body n h e v m (length-there c n f l v g i) j
+  pub byte-length-is : (c : Option ℕ) (l : ℕ) (v m : ℕ) → c ≡ checked is_byte_length n → c ≡ Some l → v ≡ l → m ≡ length (decimal v) → word + m ≡ numbered is_byte_length word body
+  byte-length-is c l v m f g i j = numbered_yes is_byte_length word body n h e v m (sym f ∙ g ∙ ap Some (sym i)) j
 
 pub bare-is : (word : ℕ) (body : List ℕ) → length body ≡ 0 → word ≡ bare word body
 unfolding bare
@@ -109,24 +103,24 @@ bare-not word body h = rw (bare, ne_eqb (length body) 0 h)
 -- what a body says, by its text
 module _ {A : Type 0} (text : A → List ℕ) (word : ℕ) (body : List ℕ) where
   numbered-text : (t : ℕ → Bool) (f : ℕ → A) → ((n : ℕ) → length (text (f n)) ≡ word + length (decimal n))
-      → numbered t word body ≡ measured (on_option text (wholly 2 body (λ n. when (t n) (some (f n)))))
+      → numbered t word body ≡ measured (on_option text (wholly 2 body (λ n. when (t n) (Some (f n)))))
   unfolding numbered measured
   numbered-text t f h = go (eqb (length body) 2)
     where
-      inner : (b : Bool) → elim b as (λ _. ℕ) [ true ↦ word + length (decimal (le_value body)) | false ↦ 0 ] ≡ measured (on_option text (when b (some (f (le_value body)))))
+      inner : (b : Bool) → elim b as (λ _. ℕ) [ true ↦ word + length (decimal (le_value body)) | false ↦ 0 ] ≡ measured (on_option text (when b (Some (f (le_value body)))))
       inner true = sym (h (le_value body))
       inner false = refl
 
       go : (b : Bool) → elim b as (λ _. ℕ) [ true ↦ elim (t (le_value body)) [ true ↦ word + length (decimal (le_value body)) | false ↦ 0 ] | false ↦ 0 ]
-          ≡ measured (on_option text (elim b as (λ _. Option A) [ true ↦ when (t (le_value body)) (some (f (le_value body))) | false ↦ none ]))
+          ≡ measured (on_option text (elim b as (λ _. Option A) [ true ↦ when (t (le_value body)) (Some (f (le_value body))) | false ↦ None ]))
       go true = inner (t (le_value body))
       go false = refl
 
-  bare-text : (a : A) → length (text a) ≡ word → bare word body ≡ measured (on_option text (ended body (some a)))
+  bare-text : (a : A) → length (text a) ≡ word → bare word body ≡ measured (on_option text (ended body (Some a)))
   unfolding bare measured
   bare-text a h = go body
     where
-      go : (c : List ℕ) → bare word c ≡ measured (on_option text (ended c (some a)))
+      go : (c : List ℕ) → bare word c ≡ measured (on_option text (ended c (Some a)))
       go [] = sym h
       go (x ∷ c) = sym (bare-not word (x ∷ c) (λ e. omega arith))
 
@@ -171,58 +165,58 @@ elementary-alone k (c ∷ t) r h e = absurd (omega arith)
 
 pub elementary-other : (k : ℕ) (body : List ℕ) → Misses k elementary_cases → 0 ≡ measured (elementary_from k body)
 unfolding elementary_from decode_elementary measured
-elementary-other k body m = ap (λ T. measured (on_option elementary_text (T body))) (sym (select-other k elementary_cases (λ _. none) m))
+elementary-other k body m = ap (λ T. measured (on_option elementary_text (T body))) (sym (select-other k elementary_cases (λ _. None) m))
 
 module _ {A : Type 0} (n : ℕ) (body : List ℕ) (f : ℕ → Option A) where
   wholly-is : length body ≡ n → wholly n body f ≡ f (le_value body)
   wholly-is h = rw (wholly, eq-eqb (length body) n h)
 
-  wholly-not : (length body ≡ n → ⊥) → wholly n body f ≡ none
+  wholly-not : (length body ≡ n → ⊥) → wholly n body f ≡ None
   wholly-not h = rw (wholly, ne_eqb (length body) n h)
 
 -- a body that the case of a number does not take
 module _ {A : Type 0} (k : ℕ) (body : List ℕ) where
   abbrev pub Refuses : List (Case (List ℕ → Option A)) → Type 0
   Refuses [] = Unit {0}
-  Refuses (case n f ∷ cs) = (k ≡ n → f body ≡ none) × Refuses cs
+  Refuses (case n f ∷ cs) = (k ≡ n → f body ≡ None) × Refuses cs
 
-  select-none : (cs : List (Case (List ℕ → Option A))) → Refuses cs → select cs (λ _. none) k body ≡ none
+  select-none : (cs : List (Case (List ℕ → Option A))) → Refuses cs → select cs (λ _. None) k body ≡ None
   select-none [] m = refl
   select-none (case n f ∷ cs) m = go (eqb n k) refl (select-none cs m.1)
     where
-      go : (t : Bool) → eqb n k ≡ t → select cs (λ _. none) k body ≡ none → (elim t as (λ _. List ℕ → Option A) [ true ↦ f | false ↦ select cs (λ _. none) k ]) body ≡ none
+      go : (t : Bool) → eqb n k ≡ t → select cs (λ _. None) k body ≡ None → (elim t as (λ _. List ℕ → Option A) [ true ↦ f | false ↦ select cs (λ _. None) k ]) body ≡ None
       go true q e = m.0 (sym (eqb-true n k q))
       go false q e = e
 
-not-width : (f : KindWidth → Elementary) (body : List ℕ) → (length body ≡ 2 → ⊥) → width_from f body ≡ none
-not-width f body h = wholly-not 2 body (λ n. when (is_bit_width n) (some (f (bits n)))) h
+not-width : (f : KindWidth → Elementary) (body : List ℕ) → (length body ≡ 2 → ⊥) → width_from f body ≡ None
+not-width f body h = wholly-not 2 body (λ n. when (is_bit_width n) (Some (f (bits n)))) h
 
-not-length : (body : List ℕ) → (length body ≡ 2 → ⊥) → byte_length_from body ≡ none
-not-length body h = wholly-not 2 body (λ n. when (is_byte_length n) (some (fixed_bytes (octets n)))) h
+not-length : (body : List ℕ) → (length body ≡ 2 → ⊥) → byte_length_from body ≡ None
+not-length body h = wholly-not 2 body (λ n. when (is_byte_length n) (Some (fixed_bytes (octets n)))) h
 
-not-ended : {A : Type 0} (body : List ℕ) (a : A) → (length body ≡ 0 → ⊥) → ended body (some a) ≡ none
+not-ended : {A : Type 0} (body : List ℕ) (a : A) → (length body ≡ 0 → ⊥) → ended body (Some a) ≡ None
 not-ended [] a h = absurd (h refl)
 not-ended (c ∷ t) a h = refl
 
 module _ (k : ℕ) (body : List ℕ) where
-  refused : Refuses k body elementary_cases → elementary_from k body ≡ none
+  refused : Refuses k body elementary_cases → elementary_from k body ≡ None
   unfolding elementary_from decode_elementary
   refused m = rw (elementary_from, decode_elementary, select-none k body elementary_cases m)
 
   -- a number and a kind that has none, no number and a kind that has one, and neither
-  pub elementary-numbered : (length body ≡ 0 → ⊥) → (k ≡ 1 → ⊥) → (k ≡ 2 → ⊥) → (k ≡ 5 → ⊥) → elementary_from k body ≡ none
+  pub elementary-numbered : (length body ≡ 0 → ⊥) → (k ≡ 1 → ⊥) → (k ≡ 2 → ⊥) → (k ≡ 5 → ⊥) → elementary_from k body ≡ None
   elementary-numbered h a b c =
       refused (λ q. absurd (a q), (λ q. absurd (b q), (λ _. not-ended body _ h, (λ _. not-ended body _ h, (λ q. absurd (c q), (λ _. not-ended body _ h, (λ _. not-ended body _ h, (λ _. not-ended body _ h, tt))))))))
 
-  pub elementary-worded : (length body ≡ 2 → ⊥) → (k ≡ 3 → ⊥) → (k ≡ 4 → ⊥) → (k ≡ 6 → ⊥) → (k ≡ 7 → ⊥) → (k ≡ 8 → ⊥) → elementary_from k body ≡ none
+  pub elementary-worded : (length body ≡ 2 → ⊥) → (k ≡ 3 → ⊥) → (k ≡ 4 → ⊥) → (k ≡ 6 → ⊥) → (k ≡ 7 → ⊥) → (k ≡ 8 → ⊥) → elementary_from k body ≡ None
   elementary-worded h a b c d e =
       refused (λ _. not-width int body h, (λ _. not-width uint body h, (λ q. absurd (a q), (λ q. absurd (b q), (λ _. not-length body h, (λ q. absurd (c q), (λ q. absurd (d q), (λ q. absurd (e q), tt))))))))
 
-  pub elementary_odd : (length body ≡ 2 → ⊥) → (length body ≡ 0 → ⊥) → elementary_from k body ≡ none
+  pub elementary_odd : (length body ≡ 2 → ⊥) → (length body ≡ 0 → ⊥) → elementary_from k body ≡ None
   elementary_odd h z =
       refused (λ _. not-width int body h, (λ _. not-width uint body h, (λ _. not-ended body _ z, (λ _. not-ended body _ z, (λ _. not-length body h, (λ _. not-ended body _ z, (λ _. not-ended body _ z, (λ _. not-ended body _ z, tt))))))))
 
-pub measured-none : (t : Option (List ℕ)) → t ≡ none → 0 ≡ measured t
+pub measured-none : (t : Option (List ℕ)) → t ≡ None → 0 ≡ measured t
 unfolding measured
 measured-none t e = rw e
 
@@ -232,11 +226,11 @@ module _ (k : ℕ) (body : List ℕ) where
   suffix-sized v n e h f₁ g =
       let f : v ≡ le_value body = f₁ ∙ ap le_value (take_all 8 body (omega arith)) in
       let size : 2 + n ≡ length (91 ∷ (decimal v ++ (93 ∷ []))) = omega (arith, length-append (decimal v) (93 ∷ [])) in
-      rw e (rw f at size ∙ ap (λ o. measured (on_option suffix_text o)) (sym (wholly-is 8 body (λ m. some (sized m)) h)))
+      rw e (rw f at size ∙ ap (λ o. measured (on_option suffix_text o)) (sym (wholly-is 8 body (λ m. Some (sized m)) h)))
 
   pub suffix_odd : k ≡ 10 → (length body ≡ 8 → ⊥) → 0 ≡ measured (suffix_from k body)
   unfolding suffix_from decode_suffix measured
-  suffix_odd e h = rw e (ap (λ o. measured (on_option suffix_text o)) (sym (wholly-not 8 body (λ m. some (sized m)) h)))
+  suffix_odd e h = rw e (ap (λ o. measured (on_option suffix_text o)) (sym (wholly-not 8 body (λ m. Some (sized m)) h)))
 
   pub suffix_open : (r : ℕ) → k ≡ 11 → r ≡ bare 2 body → r ≡ measured (suffix_from k body)
   unfolding suffix_from decode_suffix suffix_text
@@ -244,6 +238,6 @@ module _ (k : ℕ) (body : List ℕ) where
 
   pub suffix-other : (k ≡ 10 → ⊥) → (k ≡ 11 → ⊥) → 0 ≡ measured (suffix_from k body)
   unfolding suffix_from decode_suffix measured
-  suffix-other g h = ap (λ T. measured (on_option suffix_text (T body))) (sym (select-other k suffix_cases (λ _. none) (g, (h, tt))))
+  suffix-other g h = ap (λ T. measured (on_option suffix_text (T body))) (sym (select-other k suffix_cases (λ _. None) (g, (h, tt))))
 
 pub ruleset lengths = (counted_start, counted_next, small_one, small-two, small_three, small-four, numbered-not, width_no, width_is, byte-length_no, byte-length-is, bare-is, bare-not, elementary-int, elementary-uint, elementary-fixed, worded_address, worded_bool, worded-function, worded-bytes, worded_string, suffix-sized, suffix_odd, suffix_open, suffix-other)

@@ -3,7 +3,8 @@
 use mathlib.Core.Path.{◌≡◌, refl, sym, ◌∙◌, ap, subst}
 use mathlib.Core.Bool.{Bool, true, false, ◌||◌, and-false}
 use mathlib.Core.List.{List, [], ◌∷◌}
-use mathlib.Core.Option.{Option, none, some, none-ne-some, some-injective}
+use Rattle.std.specs.Prelude.{Option, None, Some}
+use Rattle.std.proofs.lemmas.Option.{none-some, same_Some}
 use Prim.Native.Nat.{ℕ, ◌≤◌, ◌<◌}
 use native.Mathlib.Omega.{arith}
 use native.Mathlib.Decide.{dec_lt}
@@ -24,39 +25,39 @@ use Rattle.record.specs.Parts.{Head}
 module _ (body : List ℕ) (e : Elementary) where
   abbrev Tells : List (Case (List ℕ → Option Elementary)) → Type 0
   Tells [] = Unit {0}
-  Tells (case n T ∷ cs) = (T body ≡ some e → is_located e ≡ between 7 9 n) × Tells cs
+  Tells (case n T ∷ cs) = (T body ≡ Some e → is_located e ≡ between 7 9 n) × Tells cs
 
-  select-tells : (cs : List (Case (List ℕ → Option Elementary))) → Tells cs → (k : ℕ) → select cs (λ _. none) k body ≡ some e → is_located e ≡ between 7 9 k
-  select-tells [] h k q = absurd (none-ne-some e q)
+  select-tells : (cs : List (Case (List ℕ → Option Elementary))) → Tells cs → (k : ℕ) → select cs (λ _. None) k body ≡ Some e → is_located e ≡ between 7 9 k
+  select-tells [] h k q = absurd (none-some e q)
   select-tells (case n T ∷ cs) h k q = go (eqb n k) refl q (select-tells cs h.1 k)
     where
-      go : (t : Bool) → eqb n k ≡ t → (elim t as (λ _. List ℕ → Option Elementary) [ true ↦ T | false ↦ select cs (λ _. none) k ]) body ≡ some e → (select cs (λ _. none) k body ≡ some e → is_located e ≡ between 7 9 k) → is_located e ≡ between 7 9 k
+      go : (t : Bool) → eqb n k ≡ t → (elim t as (λ _. List ℕ → Option Elementary) [ true ↦ T | false ↦ select cs (λ _. None) k ]) body ≡ Some e → (select cs (λ _. None) k body ≡ Some e → is_located e ≡ between 7 9 k) → is_located e ≡ between 7 9 k
       go true p r later = rw (← (eqb-true n k p)) (h.0 r)
       go false p r later = later r
 
-  numbered : (t : ℕ → Bool) (f : ℕ → Elementary) (b : Bool) → ((v : ℕ) → is_located (f v) ≡ b) → wholly 2 body (λ v. when (t v) (some (f v))) ≡ some e → is_located e ≡ b
+  numbered : (t : ℕ → Bool) (f : ℕ → Elementary) (b : Bool) → ((v : ℕ) → is_located (f v) ≡ b) → wholly 2 body (λ v. when (t v) (Some (f v))) ≡ Some e → is_located e ≡ b
   numbered t f b h q = go (eqb (length body) 2) q
     where
-      go : (x : Bool) → elim x as (λ _. Option Elementary) [ true ↦ when (t (le_value body)) (some (f (le_value body))) | false ↦ none ] ≡ some e → is_located e ≡ b
-      go true r = when-some (t (le_value body)) (some (f (le_value body))) r (λ _ s. rw (← (some-injective _ _ s)) (h (le_value body)))
-      go false r = absurd (none-ne-some e r)
+      go : (x : Bool) → elim x as (λ _. Option Elementary) [ true ↦ when (t (le_value body)) (Some (f (le_value body))) | false ↦ None ] ≡ Some e → is_located e ≡ b
+      go true r = when-some (t (le_value body)) (Some (f (le_value body))) r (λ _ s. rw (← (same_Some _ _ s)) (h (le_value body)))
+      go false r = absurd (none-some e r)
 
-  worded : (x : Elementary) → ended body (some x) ≡ some e → is_located e ≡ is_located x
-  worded x q = ended_some body (some x) q (λ _ s. ap is_located (sym (some-injective _ _ s)))
+  worded : (x : Elementary) → ended body (Some x) ≡ Some e → is_located e ≡ is_located x
+  worded x q = ended_some body (Some x) q (λ _ s. ap is_located (sym (same_Some _ _ s)))
 
   elementary-tells : Tells elementary_cases
   elementary-tells = (numbered is_bit_width (λ v. int (bits v)) false (λ v. refl), (numbered is_bit_width (λ v. uint (bits v)) false (λ v. refl), (worded address, (worded bool, (numbered is_byte_length (λ v. fixed_bytes (octets v)) false (λ v. refl), (worded Elementary.function, (worded bytes, (worded string, tt))))))))
 
-  located_elementary : (k : ℕ) → decode_elementary k body ≡ some e → is_located e ≡ between 7 9 k
+  located_elementary : (k : ℕ) → decode_elementary k body ≡ Some e → is_located e ≡ between 7 9 k
   unfolding decode_elementary
   located_elementary k q = select-tells elementary_cases elementary-tells k q
 
 -- a base
-located_base_lem : (T : List ℕ → Option Fields) (k : ℕ) (body : List ℕ) (b : Base) → base_from T k body ≡ some b → can_specify_location b [] ≡ between 7 9 k
+located_base_lem : (T : List ℕ → Option Fields) (k : ℕ) (body : List ℕ) (b : Base) → base_from T k body ≡ Some b → can_specify_location b [] ≡ between 7 9 k
 unfolding base_from
 located_base_lem T k body b q = go (eqb k 0x9) refl q
   where
-    go : (t : Bool) → eqb k 0x9 ≡ t → elim t as (λ _. Option Base) [ true ↦ on_option tuple (T body) | false ↦ on_option elementary (decode_elementary k body) ] ≡ some b → can_specify_location b [] ≡ between 7 9 k
+    go : (t : Bool) → eqb k 0x9 ≡ t → elim t as (λ _. Option Base) [ true ↦ on_option tuple (T body) | false ↦ on_option elementary (decode_elementary k body) ] ≡ Some b → can_specify_location b [] ≡ between 7 9 k
     go true p r = on_some tuple (T body) r (λ fs _ s. rw (← s, eqb-true k 0x9 p))
     go false p r = on_some elementary (decode_elementary k body) r (λ e f s. rw (← s) (located_elementary body e k f))
 
@@ -65,19 +66,19 @@ suffixed : (b : Base) (o : Suffix) (ss : List Suffix) → can_specify_location b
 suffixed (elementary e) o ss = refl
 suffixed (tuple fs) o ss = refl
 
-located_suffixes : (b : Base) (r : List ℕ) (ss : List Suffix) → decode_suffixes 4 r ≡ some ss → can_specify_location b ss ≡ (is_more r || can_specify_location b [])
+located_suffixes : (b : Base) (r : List ℕ) (ss : List Suffix) → decode_suffixes 4 r ≡ Some ss → can_specify_location b ss ≡ (is_more r || can_specify_location b [])
 unfolding decode_suffixes each_in
-located_suffixes b [] ss q = let e : [] ≡ ss = some-injective _ _ q in rw (← e)
+located_suffixes b [] ss q = let e : [] ≡ ss = same_Some _ _ q in rw (← e)
 located_suffixes b (c ∷ t) ss q = go (piece_of 4 (c ∷ t)) q
   where
-    go : (p : Piece) → on_piece p (λ k body r. given (decode_suffix k body) (λ a. on_option (λ os. a ∷ os) (each_in 4 [] ◌∷◌ decode_suffix (length t) r))) ≡ some ss → can_specify_location b ss ≡ true
-    go no_piece e = absurd (none-ne-some ss e)
+    go : (p : Piece) → on_piece p (λ k body r. given (decode_suffix k body) (λ a. on_option (λ os. a ∷ os) (each_in 4 [] ◌∷◌ decode_suffix (length t) r))) ≡ Some ss → can_specify_location b ss ≡ true
+    go no_piece e = absurd (none-some ss e)
     go (piece k body r) e = given-some (decode_suffix k body) _ e (λ a _ f. on_some (λ os. a ∷ os) (each_in 4 [] ◌∷◌ decode_suffix (length t) r) f (λ os _ s. subst (λ (x : List Suffix). can_specify_location b x ≡ true) s (suffixed b a os)))
 
 -- a field that is read: what a test J asks of its kind is told by its records
 module _ (T : List ℕ → Option Fields) (J : Bool → Bool) (m : ℕ) (nm : List ℕ) where
   abbrev suffixed_by : (List Suffix → Bool) → Base → Option (List Suffix) → Option Field
-  suffixed_by t b o = given o (λ ss. when (J (t ss)) (some (field m nm b ss)))
+  suffixed_by t b o = given o (λ ss. when (J (t ss)) (Some (field m nm b ss)))
 
   abbrev based_by : (Base → List Suffix → Bool) → List ℕ → Option Base → Option Field
   based_by t r o = given o (λ b. suffixed_by (t b) b (decode_suffixes 4 r))
@@ -86,13 +87,13 @@ module _ (T : List ℕ → Option Fields) (J : Bool → Bool) (m : ℕ) (nm : Li
   located_same no_piece = refl
   located_same (piece j base r) = based (base_from T j base) refl
     where
-      suffixes : (b : Base) → base_from T j base ≡ some b → (o : Option (List Suffix)) → decode_suffixes 4 r ≡ o → suffixed_by (can_specify_location b) b o ≡ suffixed_by (λ _. located_at (piece j base r)) b o
-      suffixes b e none q = refl
-      suffixes b e (some ss) q = ap (λ (l : Bool). when (J l) (some (field m nm b ss))) (located_suffixes b r ss q ∙ rw (located_base_lem T j base b e))
+      suffixes : (b : Base) → base_from T j base ≡ Some b → (o : Option (List Suffix)) → decode_suffixes 4 r ≡ o → suffixed_by (can_specify_location b) b o ≡ suffixed_by (λ _. located_at (piece j base r)) b o
+      suffixes b e None q = refl
+      suffixes b e (Some ss) q = ap (λ (l : Bool). when (J l) (Some (field m nm b ss))) (located_suffixes b r ss q ∙ rw (located_base_lem T j base b e))
 
       based : (o : Option Base) → base_from T j base ≡ o → based_by can_specify_location r o ≡ based_by (λ _ _. located_at (piece j base r)) r o
-      based none e = refl
-      based (some b) e = suffixes b e (decode_suffixes 4 r) refl
+      based None e = refl
+      based (Some b) e = suffixes b e (decode_suffixes 4 r) refl
 
 -- what the code finds of it
 module _ (t : List ℕ) (n : ℕ) (i : Head t n) where

@@ -2,7 +2,7 @@
 -- Assumes nothing.
 use mathlib.Core.Path.{◌≡◌, refl, sym, ◌∙◌, ap}
 use mathlib.Core.List.{List, []}
-use mathlib.Core.Option.{Option, none, some}
+use Rattle.std.specs.Prelude.{Option, None, Some}
 use Prim.Native.Nat.{ℕ, zero, suc, ◌+◌, ◌*◌, ◌-◌, ◌≤◌, ◌<◌}
 use native.Mathlib.Omega.{arith}
 use lib.ListN.{length, take, drop, length-drop, drop_of_length-le}
@@ -16,10 +16,10 @@ use Rattle.record.specs.Parts.{Head}
 -- E k gives the text of at most k records up to the end: each text that `item` gives of a kind and a body is joined to the text of those behind it,
 -- with so many bytes more, and `stop` stands at the end
 pub record Steps (E : ℕ → List ℕ → Option (List ℕ)) (item : ℕ → List ℕ → Option (List ℕ)) (join : List ℕ → List ℕ → List ℕ) (stop : List ℕ) (extra : ℕ) : Type 0 where
-  pub end : (k : ℕ) → E k [] ≡ some stop
+  pub end : (k : ℕ) → E k [] ≡ Some stop
   pub step : (k : ℕ) (b : List ℕ) → 0 < length b → E (suc k) b ≡ on_piece (piece_of 4 b) (λ j body r. given (item j body) (λ u. on_option (join u) (E k r)))
   pub long : (u v : List ℕ) → length (join u v) ≡ length u + extra + length v
-  pub full : (j : ℕ) (body u : List ℕ) → item j body ≡ some u → 0 < length u
+  pub full : (j : ℕ) (body u : List ℕ) → item j body ≡ Some u → 0 < length u
 
 -- the loop: what is left at `at`, with texts of n bytes before it; w is how long it all is, and 0 where there is no text
 pub record Left (E : ℕ → List ℕ → Option (List ℕ)) (w : ℕ) (b : List ℕ) (limit at n : ℕ) : Type 0 where
@@ -29,20 +29,20 @@ pub record Left (E : ℕ → List ℕ → Option (List ℕ)) (w : ℕ) (b : List
   pub small : n ≤ limit + 2 * at
   pub same : w ≡ behind n (E left (drop at b))
 
-pub measured-none : (o : Option (List ℕ)) → ((u : List ℕ) → o ≡ some u → 0 < length u) → measured o ≡ 0 → o ≡ none
+pub measured-none : (o : Option (List ℕ)) → ((u : List ℕ) → o ≡ Some u → 0 < length u) → measured o ≡ 0 → o ≡ None
 unfolding measured
-measured-none none f e = refl
-measured-none (some u) f e = absurd (omega (arith, f u refl))
+measured-none None f e = refl
+measured-none (Some u) f e = absurd (omega (arith, f u refl))
 
 behind_join : (join : List ℕ → List ℕ → List ℕ) (extra : ℕ) → ((u v : List ℕ) → length (join u v) ≡ length u + extra + length v)
     → (n : ℕ) (u : List ℕ) (o : Option (List ℕ)) → behind n (on_option (join u) o) ≡ behind (n + (length u + extra)) o
 unfolding behind
-behind_join join extra h n u none = refl
-behind_join join extra h n u (some v) = omega (arith, h u v)
+behind_join join extra h n u None = refl
+behind_join join extra h n u (Some v) = omega (arith, h u v)
 
 module _ (E : ℕ → List ℕ → Option (List ℕ)) (item : ℕ → List ℕ → Option (List ℕ)) (join : List ℕ → List ℕ → List ℕ) (stop : List ℕ) (extra : ℕ) (st : Steps E item join stop extra) where
   -- no record, one that is no item, and one that is
-  step-none : (k : ℕ) (b : List ℕ) → 0 < length b → length b ≤ k → piece_of 4 b ≡ no_piece → E k b ≡ none
+  step-none : (k : ℕ) (b : List ℕ) → 0 < length b → length b ≤ k → piece_of 4 b ≡ no_piece → E k b ≡ None
   step-none zero b h l e = absurd (omega arith)
   step-none (suc k) b h l e = st.step k b h ∙ rw e
 
@@ -50,7 +50,7 @@ module _ (E : ℕ → List ℕ → Option (List ℕ)) (item : ℕ → List ℕ �
     stepped : (k : ℕ) → E (suc k) b ≡ given (item j (take (l - 6) (drop 6 b))) (λ u. on_option (join u) (E k (drop l b)))
     stepped k = st.step k b (omega (arith, i.inside)) ∙ rw (i.some h, ← e)
 
-    step-bad : (k : ℕ) → length b ≤ k → measured (item j (take (l - 6) (drop 6 b))) ≡ 0 → E k b ≡ none
+    step-bad : (k : ℕ) → length b ≤ k → measured (item j (take (l - 6) (drop 6 b))) ≡ 0 → E k b ≡ None
     step-bad zero m z = absurd (omega (arith, i.inside))
     step-bad (suc k) m z = stepped k ∙ rw (measured-none (item j (take (l - 6) (drop 6 b))) (st.full j (take (l - 6) (drop 6 b))) z)
 
@@ -59,8 +59,8 @@ module _ (E : ℕ → List ℕ → Option (List ℕ)) (item : ℕ → List ℕ �
     step-next k n s f z = ap (behind n) (stepped k) ∙ go (item j (take (l - 6) (drop 6 b))) f
       where
         go : (o : Option (List ℕ)) → s ≡ measured o → behind n (given o (λ u. on_option (join u) (E k (drop l b)))) ≡ behind (n + (s + extra)) (E k (drop l b))
-        go none q = absurd (z q)
-        go (some u) q = behind_join join extra st.long n u (E k (drop l b)) ∙ ap (λ x. behind (n + (x + extra)) (E k (drop l b))) (sym q)
+        go None q = absurd (z q)
+        go (Some u) q = behind_join join extra st.long n u (E k (drop l b)) ∙ ap (λ x. behind (n + (x + extra)) (E k (drop l b))) (sym q)
 
   module _ (w : ℕ) (b : List ℕ) (limit at n : ℕ) (i : Left E w b limit at n) where
     pub left_end : length b ≤ at → n + length stop ≡ w

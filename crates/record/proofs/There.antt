@@ -3,7 +3,8 @@
 use mathlib.Core.Path.{◌≡◌, refl, sym, ◌∙◌, ap}
 use mathlib.Core.Bool.{Bool, true, false, ◌&&◌, and-eq-true_iff}
 use mathlib.Core.List.{List}
-use mathlib.Core.Option.{Option, none, some, none-ne-some, some-injective}
+use Rattle.std.specs.Prelude.{Option, None, Some}
+use Rattle.std.proofs.lemmas.Option.{none-some, same_Some}
 use Prim.Native.Nat.{ℕ, ◌+◌, ◌-◌, ◌≤◌}
 use native.Mathlib.Omega.{arith}
 use lib.Dec.{leb, eqb}
@@ -23,18 +24,18 @@ use Rattle.record.proofs.Equations.{kinded}
 
 -- a record that bytes begin with, where something was read of it
 module _ {A Q : Type 0} {a : A} where
-  pub test-there : (t : Bool) (o : Option A) → elim t as (λ _. Option A) [ true ↦ o | false ↦ none ] ≡ some a → (t ≡ true → o ≡ some a → Q) → Q
+  pub test-there : (t : Bool) (o : Option A) → elim t as (λ _. Option A) [ true ↦ o | false ↦ None ] ≡ Some a → (t ≡ true → o ≡ Some a → Q) → Q
   test-there true o e next = next refl e
-  test-there false o e next = absurd (none-ne-some a e)
+  test-there false o e next = absurd (none-some a e)
 
-  pub piece-there : (b : List ℕ) (f : ℕ → List ℕ → List ℕ → Option A) → on_piece (piece_of 4 b) f ≡ some a
-      → (6 ≤ le_value (take 4 b) → le_value (take 4 b) ≤ length b → f (le_value (take 2 (drop 4 b))) (take (le_value (take 4 b) - 6) (drop 6 b)) (drop (le_value (take 4 b)) b) ≡ some a → Q) → Q
+  pub piece-there : (b : List ℕ) (f : ℕ → List ℕ → List ℕ → Option A) → on_piece (piece_of 4 b) f ≡ Some a
+      → (6 ≤ le_value (take 4 b) → le_value (take 4 b) ≤ length b → f (le_value (take 2 (drop 4 b))) (take (le_value (take 4 b) - 6) (drop 6 b)) (drop (le_value (take 4 b)) b) ≡ Some a → Q) → Q
   unfolding piece_of
   piece-there b f e next = go (leb 6 (le_value (take 4 b)) && leb (le_value (take 4 b)) (length b)) refl
     where
       go : (t : Bool) → (leb 6 (le_value (take 4 b)) && leb (le_value (take 4 b)) (length b)) ≡ t → Q
       go true p = let (low, high) = (and-eq-true_iff _ _).0 p in next (leb-true _ _ low) (leb-true _ _ high) (rw (piece_of, p) at e)
-      go false p = absurd (none-ne-some a (rw (piece_of, p) at e))
+      go false p = absurd (none-some a (rw (piece_of, p) at e))
 
 -- where the record of a field's name ends in the field's body
 abbrev pub name_end : List ℕ → ℕ
@@ -44,23 +45,23 @@ pub record FieldThere (d : ℕ) (body : List ℕ) (f : Field) : Type 0 where
   pub low : 8 ≤ name_end body
   pub inside : name_end body + 6 ≤ length body
   pub name : take (name_end body - 8) (drop 8 body) ≡ field_name f
-  pub kind : kind_from d (drop (name_end body) body) ≡ some (field_text f)
+  pub kind : kind_from d (drop (name_end body) body) ≡ Some (field_text f)
 
 module _ (sort : Sort) (d : ℕ) where
   -- the kind behind the name
   kind-there : (m : ℕ) (nm : List ℕ) (t : Bool) (r : List ℕ) (f : Field)
-      → on_piece (piece_of 4 r) (λ j base r₂. given (base_from (tuple_from 4 d) j base) (λ b. given (decode_suffixes 4 r₂) (λ ss. when t (some (field m nm b ss))))) ≡ some f
-      → (6 ≤ length r) × (nm ≡ field_name f) × (kind_from d r ≡ some (field_text f))
+      → on_piece (piece_of 4 r) (λ j base r₂. given (base_from (tuple_from 4 d) j base) (λ b. given (decode_suffixes 4 r₂) (λ ss. when t (Some (field m nm b ss))))) ≡ Some f
+      → (6 ≤ length r) × (nm ≡ field_name f) × (kind_from d r ≡ Some (field_text f))
   unfolding kind_from field_name
   kind-there m nm t r f e =
       piece-there r _ e (λ low high e₁.
       given-some (base_from (tuple_from 4 d) (le_value (take 2 (drop 4 r))) (take (le_value (take 4 r) - 6) (drop 6 r))) _ e₁ (λ b p e₂.
       given-some (decode_suffixes 4 (drop (le_value (take 4 r)) r)) _ e₂ (λ ss q e₃.
       when-some t _ e₃ (λ g e₄.
-      let text : some (field_text f) ≡ when t (kind_from d r) = ap (on_option field_text) (sym e) ∙ kinded m nm t d (piece_of 4 r) in
-      (omega arith, ap field_name (some-injective _ _ e₄), sym (rw g at text))))))
+      let text : Some (field_text f) ≡ when t (kind_from d r) = ap (on_option field_text) (sym e) ∙ kinded m nm t d (piece_of 4 r) in
+      (omega arith, ap field_name (same_Some _ _ e₄), sym (rw g at text))))))
 
-  pub field-there : (k : ℕ) (body : List ℕ) (f : Field) → field_from 4 sort (base_from (tuple_from 4 d)) k body ≡ some f → (k ≡ 0x10) × FieldThere d body f
+  pub field-there : (k : ℕ) (body : List ℕ) (f : Field) → field_from 4 sort (base_from (tuple_from 4 d)) k body ≡ Some f → (k ≡ 0x10) × FieldThere d body f
   unfolding field_from located_from marks
   field-there k body f e =
       when-some (eqb k 0x10) _ e (λ p e₁.

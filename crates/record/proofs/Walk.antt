@@ -3,7 +3,7 @@
 use mathlib.Core.Path.{◌≡◌, refl, sym, ◌∙◌, ap}
 use mathlib.Core.Bool.{Bool, true, false, ◌&&◌}
 use mathlib.Core.List.{List, [], ◌∷◌, ◌++◌}
-use mathlib.Core.Option.{Option, none, some}
+use Rattle.std.specs.Prelude.{Option, None, Some}
 use Prim.Native.Nat.{ℕ, ◌+◌, ◌*◌, ◌-◌, ◌≤◌, ◌<◌}
 use native.Mathlib.Omega.{arith}
 use native.Mathlib.Nat.{zero-add}
@@ -58,7 +58,7 @@ module _ (b : List ℕ) (text : ℕ) where
 pub front-short : (sort : Sort) (body : List ℕ) → length body < 2 → Front sort body 0
 front-short sort body h = record { inside = omega arith; none = λ _ d. field-short sort d body h; some = λ z. absurd (z refl) }
 
-no_front : (sort : Sort) (body : List ℕ) → ((d : ℕ) → field_text_from sort d 0x10 body ≡ none) → Front sort body 0
+no_front : (sort : Sort) (body : List ℕ) → ((d : ℕ) → field_text_from sort d 0x10 body ≡ None) → Front sort body 0
 no_front sort body h = record { inside = omega arith; none = λ _. h; some = λ z. absurd (z refl) }
 
 module _ (sort : Sort) (body : List ℕ) (m : ℕ) (h : 2 ≤ length body) (p : Head (take (length body - 2) (drop 2 body)) m) where
@@ -105,9 +105,9 @@ pub ruleset fronting = (front-short, front-none, front-other, front-unmarked, fr
 -- a base and its suffixes
 join_texts : (o v : Option (List ℕ)) (s r : ℕ) → s ≡ measured o → (s ≡ 0 → ⊥) → r ≡ behind s v → r ≡ measured (given o (λ u. on_option (λ w. u ++ w) v))
 unfolding measured behind
-join_texts none v s r e z f = absurd (z e)
-join_texts (some u) none s r e z f = f
-join_texts (some u) (some w) s r e z f = omega (arith, length-append u w)
+join_texts None v s r e z f = absurd (z e)
+join_texts (Some u) None s r e z f = f
+join_texts (Some u) (Some w) s r e z f = omega (arith, length-append u w)
 
 module _ (d : ℕ) (t : List ℕ) (n : ℕ) (i : Head t n) where
   pub kind-none : n < 6 → 0 ≡ measured (kind_from d t)
@@ -119,7 +119,7 @@ module _ (d : ℕ) (t : List ℕ) (n : ℕ) (i : Head t n) where
     unfolding kind_from
     kinded = rw (kind_from, i.some h, ← e)
 
-    module _ (o : Option (List ℕ)) (b : base_text_from d k (take (n - 6) (drop 6 t)) ≡ o) (full : (u : List ℕ) → o ≡ some u → 0 < length u) (s : ℕ) (f : s ≡ measured o) where
+    module _ (o : Option (List ℕ)) (b : base_text_from d k (take (n - 6) (drop 6 t)) ≡ o) (full : (u : List ℕ) → o ≡ Some u → 0 < length u) (s : ℕ) (f : s ≡ measured o) where
       no_base : s ≡ 0 → 0 ≡ measured (kind_from d t)
       unfolding measured
       no_base z = rw (kinded, b, measured-none o full (sym f ∙ z))
@@ -184,8 +184,8 @@ module _ (sort : Sort) (d : ℕ) (b : List ℕ) where
 
   measured-behind : (o : Option (List ℕ)) → measured o ≡ behind 0 o
   unfolding measured behind
-  measured-behind none = refl
-  measured-behind (some u) = sym (zero-add (length u))
+  measured-behind None = refl
+  measured-behind (Some u) = sym (zero-add (length u))
 
   pub fields-start : FieldsLeft 0 0
   fields-start = record { left = length b; inside = omega arith; enough = omega arith; small = omega arith; same = measured-behind (fields_in sort d (length b) b) }

@@ -2,7 +2,8 @@
 -- Assumes nothing.
 use mathlib.Core.Path.{◌≡◌, refl, sym, ◌∙◌, ap, subst}
 use mathlib.Core.List.{List, [], ◌∷◌}
-use mathlib.Core.Option.{Option, none, some, none-ne-some, some-injective}
+use Rattle.std.specs.Prelude.{Option, None, Some}
+use Rattle.std.proofs.lemmas.Option.{none-some, same_Some}
 use Prim.Native.Nat.{ℕ, suc, ◌+◌, ◌-◌, ◌≤◌, ◌<◌}
 use native.Mathlib.Omega.{arith}
 use lib.ListN.{length, take, drop, length-append, length-drop, drop_of_length-le}
@@ -30,20 +31,20 @@ module _ (b : List ℕ) (n : ℕ) (i : Alone 0x10 b) (e : n ≡ measured (tuple_
   only k l = rw l ((field_steps Plain 32).step k b (omega (arith, i.long)) ∙ rw i.parts (go (field_text_from Plain 32 0x10 (drop 6 b))))
     where
       go : (o : Option (List ℕ)) → given o (λ u. on_option (parted u) (fields_in Plain 32 k [])) ≡ on_option (λ u. parted u (rparen ∷ [])) o
-      go none = refl
-      go (some u) = ap (on_option (parted u)) ((field_steps Plain 32).end k)
+      go None = refl
+      go (Some u) = ap (on_option (parted u)) ((field_steps Plain 32).end k)
 
   only-field : fields_in Plain 32 (length b) b ≡ on_option (λ u. parted u (rparen ∷ [])) (field_text_from Plain 32 0x10 (drop 6 b))
   only-field = only (length b - 1) (omega (arith, i.long))
 
   -- the text of the field is two bytes shorter
-  sized : (o : Option (List ℕ)) → field_text_from Plain 32 0x10 (drop 6 b) ≡ o → ((u : List ℕ) → o ≡ some u → n ≡ length u + 2) × (o ≡ none → n ≡ 0)
+  sized : (o : Option (List ℕ)) → field_text_from Plain 32 0x10 (drop 6 b) ≡ o → ((u : List ℕ) → o ≡ Some u → n ≡ length u + 2) × (o ≡ None → n ≡ 0)
   unfolding measured
-  sized none q = (λ u z. absurd (none-ne-some u z), λ _. e ∙ sym (tuple-none Plain 32 b (rw (only-field, q))))
-  sized (some u) q =
+  sized None q = (λ u z. absurd (none-some u z), λ _. e ∙ sym (tuple-none Plain 32 b (rw (only-field, q))))
+  sized (Some u) q =
       let long : length u + 1 + 1 ≡ measured (fields_in Plain 32 (length b) b) = rw (only-field, q) (omega (arith, length-append u (rparen ∷ []))) in
       let more : length u + 1 + 1 ≡ measured (tuple_text_from Plain 32 b) = tuple-more Plain 32 b (length u + 1) long (λ z. omega arith) in
-      (λ v z. omega (arith, ap length (some-injective _ _ z)), λ z. absurd (none-ne-some u (sym z)))
+      (λ v z. omega (arith, ap length (same_Some _ _ z)), λ z. absurd (none-some u (sym z)))
 
   module _ (o : Option Field) (q : decode_field 4 Plain 0x10 (drop 6 b) ≡ o) where
     text_of : field_text_from Plain 32 0x10 (drop 6 b) ≡ on_option field_text o
@@ -51,17 +52,17 @@ module _ (b : List ℕ) (n : ℕ) (i : Alone 0x10 b) (e : n ≡ measured (tuple_
     text_of = ap (on_option field_text) q
 
   -- what was read, where n says that something was
-  found : (o : Option Field) → decode_field 4 Plain 0x10 (drop 6 b) ≡ o → (n ≡ 0 → ⊥) → (f : Field) × (o ≡ some f) × FieldThere 32 (drop 6 b) f × (n ≡ length (field_text f) + 2)
+  found : (o : Option Field) → decode_field 4 Plain 0x10 (drop 6 b) ≡ o → (n ≡ 0 → ⊥) → (f : Field) × (o ≡ Some f) × FieldThere 32 (drop 6 b) f × (n ≡ length (field_text f) + 2)
   unfolding decode_field
-  found none q z = absurd (z ((sized none (text_of none q)).1 refl))
-  found (some f) q z = (f, refl, (field-there Plain 32 0x10 (drop 6 b) f q).1, (sized (some (field_text f)) (text_of (some f) q)).0 (field_text f) refl)
+  found None q z = absurd (z ((sized None (text_of None q)).1 refl))
+  found (Some f) q z = (f, refl, (field-there Plain 32 0x10 (drop 6 b) f q).1, (sized (Some (field_text f)) (text_of (Some f) q)).0 (field_text f) refl)
 
-  pub lone-none : n ≡ 0 → Says b none (decode_field 4 Plain 0x10 (drop 6 b)) checked.IllFormed
+  pub lone-none : n ≡ 0 → Says b None (decode_field 4 Plain 0x10 (drop 6 b)) checked.IllFormed
   lone-none z = (refl, go (decode_field 4 Plain 0x10 (drop 6 b)) refl)
     where
-      go : (o : Option Field) → decode_field 4 Plain 0x10 (drop 6 b) ≡ o → o ≡ none
-      go none q = refl
-      go (some f) q = absurd (omega (arith, (sized (some (field_text f)) (text_of (some f) q)).0 (field_text f) refl))
+      go : (o : Option Field) → decode_field 4 Plain 0x10 (drop 6 b) ≡ o → o ≡ None
+      go None q = refl
+      go (Some f) q = absurd (omega (arith, (sized (Some (field_text f)) (text_of (Some f) q)).0 (field_text f) refl))
 
   module _ (z : n ≡ 0 → ⊥) where
     pub lone-long : 20 ≤ length b
@@ -70,7 +71,7 @@ module _ (b : List ℕ) (n : ℕ) (i : Alone 0x10 b) (e : n ≡ measured (tuple_
     pub lone-text : 2 ≤ n
     lone-text = let (f, p, t, s) = found (decode_field 4 Plain 0x10 (drop 6 b)) refl z in omega arith
 
-    pub lone_is : (x : ℕ) → x ≡ le_value (take 4 (drop 8 b)) → Says b none (decode_field 4 Plain 0x10 (drop 6 b)) (checked.Field (record { from = 14; to = 8 + x }) (record { from = 8 + x; to = length b; text = n - 2 }))
+    pub lone_is : (x : ℕ) → x ≡ le_value (take 4 (drop 8 b)) → Says b None (decode_field 4 Plain 0x10 (drop 6 b)) (checked.Field (record { from = 14; to = 8 + x }) (record { from = 8 + x; to = length b; text = n - 2 }))
     lone_is x h =
         let (f, p, t, s) = found (decode_field 4 Plain 0x10 (drop 6 b)) refl z in
         let end : name_end (drop 6 b) ≡ 2 + x = rw (drop-drop 2 6 b) (omega arith) in
@@ -130,34 +131,34 @@ module _ (b : List ℕ) where
       pub check_field-asks : k ≡ 0x10 → Alone 0x10 b
       check_field-asks y = record { long = omega (arith, i.inside); parts = rw y at alone }
 
-      pub check_field : (r : Checked) → k ≡ 0x10 → Says b none (decode_field 4 Plain 0x10 (drop 6 b)) r → Says b (decode b) (decode_lone b) r
+      pub check_field : (r : Checked) → k ≡ 0x10 → Says b None (decode_field 4 Plain 0x10 (drop 6 b)) r → Says b (decode b) (decode_lone b) r
       unfolding decode_declaration
-      check_field r y s = says none (decode_field 4 Plain 0x10 (drop 6 b)) r (rw y at declares) (rw y at fields) s
+      check_field r y s = says None (decode_field 4 Plain 0x10 (drop 6 b)) r (rw y at declares) (rw y at fields) s
 
-      declared : (o : Option Declaration) (r : Checked) → decode_declaration 4 k (drop 6 b) ≡ o → decode_field 4 Plain k (drop 6 b) ≡ none → Says b o none r → Says b (decode b) (decode_lone b) r
-      declared o r p q s = says o none r (declares ∙ p) (fields ∙ q) s
+      declared : (o : Option Declaration) (r : Checked) → decode_declaration 4 k (drop 6 b) ≡ o → decode_field 4 Plain k (drop 6 b) ≡ None → Says b o None r → Says b (decode b) (decode_lone b) r
+      declared o r p q s = says o None r (declares ∙ p) (fields ∙ q) s
 
-      pub check_function : (r : Checked) → k ≡ 0x20 → Says b (function_from 4 (drop 6 b)) none r → Says b (decode b) (decode_lone b) r
+      pub check_function : (r : Checked) → k ≡ 0x20 → Says b (function_from 4 (drop 6 b)) None r → Says b (decode b) (decode_lone b) r
       unfolding decode_declaration decode_field field_from
       check_function r y s = declared (function_from 4 (drop 6 b)) r (rw y) (rw y) s
 
-      pub check_constructor : (r : Checked) → k ≡ 0x21 → Says b (constructor_from 4 (drop 6 b)) none r → Says b (decode b) (decode_lone b) r
+      pub check_constructor : (r : Checked) → k ≡ 0x21 → Says b (constructor_from 4 (drop 6 b)) None r → Says b (decode b) (decode_lone b) r
       unfolding decode_declaration decode_field field_from
       check_constructor r y s = declared (constructor_from 4 (drop 6 b)) r (rw y) (rw y) s
 
-      pub check_event : (r : Checked) → k ≡ 0x22 → Says b (event_from 4 (drop 6 b)) none r → Says b (decode b) (decode_lone b) r
+      pub check_event : (r : Checked) → k ≡ 0x22 → Says b (event_from 4 (drop 6 b)) None r → Says b (decode b) (decode_lone b) r
       unfolding decode_declaration decode_field field_from
       check_event r y s = declared (event_from 4 (drop 6 b)) r (rw y) (rw y) s
 
-      pub check_error : (r : Checked) → k ≡ 0x23 → Says b (error_from 4 (drop 6 b)) none r → Says b (decode b) (decode_lone b) r
+      pub check_error : (r : Checked) → k ≡ 0x23 → Says b (error_from 4 (drop 6 b)) None r → Says b (decode b) (decode_lone b) r
       unfolding decode_declaration decode_field field_from
       check_error r y s = declared (error_from 4 (drop 6 b)) r (rw y) (rw y) s
 
       pub check_other : (k ≡ 0x10 → ⊥) → (k ≡ 0x20 → ⊥) → (k ≡ 0x21 → ⊥) → (k ≡ 0x22 → ⊥) → (k ≡ 0x23 → ⊥) → Says b (decode b) (decode_lone b) checked.IllFormed
       unfolding decode_declaration decode_field field_from
       check_other v w x y u =
-          let none_of : select (case 0x20 (function_from 4) ∷ case 0x21 (constructor_from 4) ∷ case 0x22 (event_from 4) ∷ case 0x23 (error_from 4) ∷ []) (λ _. none) k ≡ (λ _. none)
-          = select-other k (case 0x20 (function_from 4) ∷ case 0x21 (constructor_from 4) ∷ case 0x22 (event_from 4) ∷ case 0x23 (error_from 4) ∷ []) (λ _. none) (w, (x, (y, (u, tt)))) in
+          let none_of : select (case 0x20 (function_from 4) ∷ case 0x21 (constructor_from 4) ∷ case 0x22 (event_from 4) ∷ case 0x23 (error_from 4) ∷ []) (λ _. None) k ≡ (λ _. None)
+          = select-other k (case 0x20 (function_from 4) ∷ case 0x21 (constructor_from 4) ∷ case 0x22 (event_from 4) ∷ case 0x23 (error_from 4) ∷ []) (λ _. None) (w, (x, (y, (u, tt)))) in
           (declares ∙ ap (λ T. T (drop 6 b)) none_of, fields ∙ rw (decode_field, field_from, ne_eqb k 0x10 v))
 
 pub ruleset wholes = (lone-none, lone-long, lone-text, lone_is, check_long, check_none, check_more, check_field-asks, check_field, check_function, check_constructor, check_event, check_error, check_other)

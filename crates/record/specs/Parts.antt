@@ -1,7 +1,6 @@
 -- What the check finds of a part of a record, by the definitions.
 -- Assumes nothing.
-use Rattle.std.specs.Prelude.{◌≡◌, List, [], ℕ, ◌-◌, ◌≤◌, ◌<◌, length, take, drop}
-use Rattle.std.proofs.Math.Option.{none}
+use Rattle.std.specs.Prelude.{◌≡◌, List, [], ℕ, ◌-◌, ◌≤◌, ◌<◌, length, take, drop, None}
 use Rattle.model.specs.declared.Sort.{Sort}
 use Rattle.model.specs.Layout.{le_value, piece, no_piece, piece_of}
 use Rattle.record.specs.Texts.{kind_from, field_text_from}
@@ -15,7 +14,7 @@ pub record Head (b : List ℕ) (n : ℕ) : Type 0 where
 -- behind the name in a field's body, its base stands at q; with q 0 the body is no field's
 pub record Front (sort : Sort) (body : List ℕ) (q : ℕ) : Type 0 where
   pub inside : q ≤ length body
-  pub none : q ≡ 0 → (d : ℕ) → field_text_from sort d 0x10 body ≡ none
+  pub none : q ≡ 0 → (d : ℕ) → field_text_from sort d 0x10 body ≡ None
   pub some : (q ≡ 0 → ⊥) → (d : ℕ) → field_text_from sort d 0x10 body ≡ kind_from d (drop q body)
 
 -- b is one record of kind k

@@ -1,7 +1,6 @@
 -- The texts that parts of a record stand for, where those parts are well formed, and how long they are.
 -- Assumes nothing.
-use Rattle.std.specs.Prelude.{Bool, true, false, ◌||◌, List, [], ◌∷◌, ◌++◌, ℕ, ◌+◌, eqb, length}
-use Rattle.std.proofs.Math.Option.{Option, none, some}
+use Rattle.std.specs.Prelude.{Bool, true, false, ◌||◌, List, [], ◌∷◌, ◌++◌, ℕ, ◌+◌, eqb, length, Option, None, Some}
 use Rattle.kinds.specs.Bytes.{between}
 use Rattle.kinds.specs.Decimal.{decimal}
 use Rattle.kinds.specs.Kind.{Kind, elementary_text, suffix_text, kind_text}
@@ -16,13 +15,13 @@ use Rattle.model.specs.Written.{suffixes_text}
 
 -- how long a text is, and 0 where there is none: none of the texts here is empty
 unfoldable pub measured : Option (List ℕ) → ℕ
-measured none = 0
-measured (some u) = length u
+measured None = 0
+measured (Some u) = length u
 
 -- the same with n bytes before it
 unfoldable pub behind : ℕ → Option (List ℕ) → ℕ
-behind n none = 0
-behind n (some u) = n + length u
+behind n None = 0
+behind n (Some u) = n + length u
 
 -- a word of so many bytes, with a number of two bytes behind it that passes a test
 unfoldable pub numbered : (ℕ → Bool) → ℕ → List ℕ → ℕ

@@ -2,11 +2,10 @@
 // Lengths of texts are 0 where there is none: no kind has an empty text.
 #![tactic(auto)]
 
-ghost use Rattle.std.specs.Prelude.{◌≡◌, ◌+◌, ◌*◌, ◌-◌, ◌≤◌, ◌<◌, length, take, drop, true, []};
+ghost use Rattle.std.specs.Prelude.{◌≡◌, ◌+◌, ◌*◌, ◌-◌, ◌≤◌, ◌<◌, length, take, drop, true, [], None};
 ghost use Rattle.kinds.specs.Bytes.{is_word};
 ghost use Rattle.kinds.specs.Decimal.{decimal};
 ghost use Rattle.kinds.specs.Kind.{is_bit_width, is_byte_length};
-ghost use Rattle.std.proofs.Math.Option.{none};
 ghost use Rattle.model.specs.declared.Sort.TheVariants.{Plain, Parameter};
 ghost use Rattle.model.specs.Reading.{attributes};
 ghost use Rattle.model.specs.Record.{is_field_name, is_mark, decode_field, function_from, constructor_from, event_from, error_from, decode, decode_lone};
@@ -15,7 +14,7 @@ ghost use Rattle.record.specs.Texts.{located_from, is_free, is_mark_at, measured
 ghost use Rattle.record.specs.Parts.{Head, Front, Alone};
 
 use model::{CALLDATA, INDEXED, Keyword, MEMORY, Sort, UNMARKED};
-use sizes::{BitWidth, ByteLength, CheckedLength, CheckedWidth};
+use sizes::{BitWidth, ByteLength};
 
 // The length of the record that a part begins with; below 6 where there is none.
 pub fn record_length(b: &[u8]) -> usize
@@ -83,8 +82,8 @@ fn width(word: usize, body: &[u8]) -> usize
     if body.len() == 2 {
         let c = BitWidth::new(layout::get2(body, 0) as u32);
         return match c {
-            CheckedWidth::Valid(w) => word + small_length(w.get() as usize),
-            CheckedWidth::Invalid => 0,
+            Some(w) => word + small_length(w.get() as usize),
+            None => 0,
         };
     }
     0
@@ -98,8 +97,8 @@ fn byte_length(word: usize, body: &[u8]) -> usize
     if body.len() == 2 {
         let c = ByteLength::new(layout::get2(body, 0));
         return match c {
-            CheckedLength::Valid(n) => word + small_length(n.get()),
-            CheckedLength::Invalid => 0,
+            Some(n) => word + small_length(n.get()),
+            None => 0,
         };
     }
     0
@@ -490,7 +489,7 @@ fn missing() -> Measured
 // "function: mutability, 2 bytes (0 pure, 1 view, 2 none stated, 3 payable); name; inputs; outputs"
 fn function(b: &[u8]) -> Checked
     requires { 6 ≤ length b.now }
-    ensures { Says b.now (function_from 4 (drop 6 b.now)) none result }
+    ensures { Says b.now (function_from 4 (drop 6 b.now)) None result }
 {
     if b.len() < 8 {
         return Checked::IllFormed;
@@ -524,7 +523,7 @@ fn function(b: &[u8]) -> Checked
 // "constructor: mutability (2 or 3); inputs"
 fn constructor(b: &[u8]) -> Checked
     requires { 6 ≤ length b.now }
-    ensures { Says b.now (constructor_from 4 (drop 6 b.now)) none result }
+    ensures { Says b.now (constructor_from 4 (drop 6 b.now)) None result }
 {
     if b.len() < 8 {
         return Checked::IllFormed;
@@ -549,7 +548,7 @@ fn constructor(b: &[u8]) -> Checked
 // "event: anonymous, 2 bytes (0 or 1); name; inputs"
 fn event(b: &[u8]) -> Checked
     requires { 6 ≤ length b.now }
-    ensures { Says b.now (event_from 4 (drop 6 b.now)) none result }
+    ensures { Says b.now (event_from 4 (drop 6 b.now)) None result }
 {
     if b.len() < 8 {
         return Checked::IllFormed;
@@ -579,7 +578,7 @@ fn event(b: &[u8]) -> Checked
 // "error: name; inputs"
 fn error(b: &[u8]) -> Checked
     requires { 6 ≤ length b.now }
-    ensures { Says b.now (error_from 4 (drop 6 b.now)) none result }
+    ensures { Says b.now (error_from 4 (drop 6 b.now)) None result }
 {
     let p = name_end(b, 6);
     if p == 0 {
@@ -603,7 +602,7 @@ fn error(b: &[u8]) -> Checked
 // A field by itself, read as the one of a list.
 fn lone(b: &[u8]) -> Checked
     requires { Alone 0x10 b.now }
-    ensures { Says b.now none (decode_field 4 Plain 0x10 (drop 6 b.now)) result }
+    ensures { Says b.now None (decode_field 4 Plain 0x10 (drop 6 b.now)) result }
 {
     let n = fields(b, Sort::Plain, 32);
     if n == 0 {

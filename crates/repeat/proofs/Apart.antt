@@ -4,7 +4,7 @@ use mathlib.Core.Path.{◌≡◌, sym, ◌∙◌, ap}
 use mathlib.Core.Logic.{◌↔◌}
 use mathlib.Core.Bool.{Bool, true, false, false≢true}
 use mathlib.Core.List.{List, [], ◌++◌}
-use mathlib.Core.Option.{some-injective}
+use Rattle.std.proofs.lemmas.Option.{same_Some}
 use Prim.Native.Nat.{ℕ, zero, suc, ◌+◌, ◌-◌, ◌^◌, ◌≤◌, ◌<◌}
 use native.Mathlib.Omega.{arith}
 use lib.Dec.{lit<}
@@ -111,7 +111,7 @@ leaf-bytes a b e f ss ts p q h =
 -- suffixes by their bytes
 suffixes-bytes : (ss ts : List Suffix) → all is_suffix ss ≡ true → all is_suffix ts ≡ true → length (encode_suffixes 4 ss) ≤ longest_record → encode_suffixes 4 ss ≡ encode_suffixes 4 ts → ss ≡ ts
 suffixes-bytes ss ts g h l e =
-    some-injective ss ts (sym ((suffixes_spells 4).to ss g (omega arith)) ∙ ap (decode_suffixes 4) e ∙ (suffixes_spells 4).to ts h (omega (arith, ap length e)))
+    same_Some ss ts (sym ((suffixes_spells 4).to ss g (omega arith)) ∙ ap (decode_suffixes 4) e ∙ (suffixes_spells 4).to ts h (omega (arith, ap length e)))
 
 -- a tuple is no elementary kind
 not-tuple : (e : Elementary) (ks : Kinds) → Kind.elementary e ≡ Kind.tuple ks → ⊥

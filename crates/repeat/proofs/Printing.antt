@@ -1,9 +1,10 @@
 -- Fingerprints: how they are made, and that declarations that repeat each other have the same.
 -- Assumes nothing.
+use Rattle.std.specs.Prelude.{Ok}
 use mathlib.Core.Path.{◌≡◌, refl, sym, ◌∙◌, ap}
 use mathlib.Core.Bool.{Bool, true, false, ◌||◌, false≢true, or-true, or-false}
 use mathlib.Core.List.{List, [], ◌∷◌, ◌++◌}
-use mathlib.Core.Option.{Option, none, some}
+use Rattle.std.specs.Prelude.{Option, None, Some}
 use Prim.Native.Nat.{ℕ, suc, ◌+◌, ◌≤◌, ◌<◌}
 use native.Mathlib.Omega.{arith}
 use native.Mathlib.Numerals.{add-one}
@@ -12,13 +13,11 @@ use lib.ListN.{length, take, drop, get_or, length-drop, drop_of_length-le}
 use lib.Seq.{take-suc, drop-cons, drop-drop, take_at}
 use borrow.Author.Tests.{le-ltb, eq-eqb, ne_eqb}
 use Rattle.model.specs.declared.Refusal.{Refusal}
-use Rattle.model.specs.declared.Answer.{Answer}
-use Rattle.model.specs.declared.Answer.TheVariants.{Accepted, Refused}
 use Rattle.model.specs.Layout.{le_value}
 use Rattle.model.specs.Tree.{Declaration}
 use Rattle.model.specs.Record.{encode, decode}
 use Rattle.model.specs.Line.{canonical_text}
-use Rattle.model.specs.Answer.{accepted, refused, number, writes, said, outcome, after}
+use Rattle.model.specs.Answer.{accepted, refused, number, writes, said, outcome, after, Answer, refusing}
 use Rattle.model.specs.Calls.{canonical_output, of_record, or_wrong_sort}
 use Rattle.model.specs.Sheet.{repeats, has}
 use Rattle.model.proofs.Records.{decode-exactly, encode-bytes}
@@ -80,7 +79,7 @@ module _ (t : List ℕ) (p : OneRecord t) where
   output-is =
       let b = p.one.bytes in
       let w = p.one.well in
-      let e : decode t ≡ some p.declaration = ap decode b ∙ (decode-exactly (encode 4 p.declaration) p.declaration (encode-bytes p.declaration w)).1 (w, refl) in
+      let e : decode t ≡ Some p.declaration = ap decode b ∙ (decode-exactly (encode 4 p.declaration) p.declaration (encode-bytes p.declaration w)).1 (w, refl) in
       ap (λ o. of_record o (λ d. or_wrong_sort (canonical_text d))) e
 
 -- the lent scratch
@@ -88,17 +87,17 @@ module _ (t b b₁ : List ℕ) (a : Answer) (says : said a ≡ outcome (length b
   pub scratch-length : length b₁ ≡ length b
   scratch-length = ap length leaves ∙ keeps_length b (canonical_output t)
 
-  pub print-fits : (n : ℕ) → a ≡ Accepted n → n ≤ length b₁
+  pub print-fits : (n : ℕ) → a ≡ Ok n → n ≤ length b₁
   unfolding said
   print-fits n e =
       let (u, o, x, y) = accepted-is (canonical_output t) (length b) n (sym (ap said e) ∙ says) in
       omega (arith, x, y, scratch-length)
 
   print-of : (u : List ℕ) (o : Option (List ℕ)) → or_wrong_sort o ≡ writes u → length u ≤ length b → print_text (length b) o ≡ print 0 u
-  print-of u none e l = absurd (let z : ◌≡◌ {A = ℕ} 0 1 = cc in omega arith)
-  print-of u (some v) e l = let z : v ≡ u = cc in rw (← z) (rw (print_text, le-ltb (length b) (length v) (rw z l)) refl)
+  print-of u None e l = absurd (let z : ◌≡◌ {A = ℕ} 0 1 = cc in omega arith)
+  print-of u (Some v) e l = let z : v ≡ u = cc in rw (← z) (rw (print_text, le-ltb (length b) (length v) (rw z l)) refl)
 
-  pub print-written : (n r : ℕ) → a ≡ Accepted n → r ≡ print 0 (take n b₁) → PrintIs t b b₁ r
+  pub print-written : (n r : ℕ) → a ≡ Ok n → r ≡ print 0 (take n b₁) → PrintIs t b b₁ r
   unfolding said print_in
   print-written n r e q =
       let (u, o, x, y) = accepted-is (canonical_output t) (length b) n (sym (ap said e) ∙ says) in
@@ -110,14 +109,14 @@ module _ (t b b₁ : List ℕ) (a : Answer) (says : said a ≡ outcome (length b
 
   print-long : (w : Refusal) (x : ℕ) (o : Option (List ℕ)) → refused (number w) x ≡ outcome (length b) (or_wrong_sort o) → 0 ≡ print_text (length b) o
   unfolding outcome number
-  print-long w x none e = refl
-  print-long w x (some v) e = go (ltb (length b) (length v)) refl e
+  print-long w x None e = refl
+  print-long w x (Some v) e = go (ltb (length b) (length v)) refl e
     where
       go : (c : Bool) → ltb (length b) (length v) ≡ c → refused (number w) x ≡ elim c [ true ↦ refused 20 0 | false ↦ accepted (length v) ] → ◌≡◌ {A = ℕ} 0 (elim c [ true ↦ 0 | false ↦ print 0 v ])
       go true q f = refl
       go false q f = absurd (let z : ◌≡◌ {A = ℕ} 0 1 = cc in omega arith)
 
-  pub print-refused : (w : Refusal) (x : ℕ) → a ≡ Refused w x → PrintIs t b b₁ 0
+  pub print-refused : (w : Refusal) (x : ℕ) → a ≡ refusing w x → PrintIs t b b₁ 0
   unfolding said print_in number
   print-refused w x e = record {
     size = scratch-length;

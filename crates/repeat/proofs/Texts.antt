@@ -2,7 +2,7 @@
 -- Assumes nothing.
 use mathlib.Core.Path.{◌≡◌, refl, sym, ◌∙◌, ap}
 use mathlib.Core.List.{List, ◌++◌}
-use mathlib.Core.Option.{Option, none, some}
+use Rattle.std.specs.Prelude.{Option, None, Some}
 use Prim.Native.Nat.{ℕ, ◌+◌, ◌*◌, ◌-◌, ◌^◌, ◌≤◌, ◌<◌}
 use native.Mathlib.Omega.{arith}
 use native.Mathlib.Nat.{zero-add}
@@ -85,7 +85,7 @@ module _ (t : List ℕ) (at : ℕ) (b : List ℕ) (p : TextRoom t at b) where
           let x : n + m - (n + 6) ≡ m - 6 = omega arith in
           rw (x, ← drop-drop 6 n part, ← part-rest part n) (list-is part _ _ its-name.is n e m f).bytes
 
-      kinds-said : tuple_text_from its-name.is.sort deepest (take (n + m - (n + 6)) (drop (n + 6) part)) ≡ some kinds
+      kinds-said : tuple_text_from its-name.is.sort deepest (take (n + m - (n + 6)) (drop (n + 6) part)) ≡ Some kinds
       unfolding tuple_text_from
       kinds-said =
           let h = its-name.is in
@@ -93,9 +93,9 @@ module _ (t : List ℕ) (at : ℕ) (b : List ℕ) (p : TextRoom t at b) where
           ap (on_option (λ fs. kind_text (Kind.tuple (kinds_of fs))))
           (ap (fields_from h.sort deepest) list-there ∙ fields-decode h.sort (encode_fields 4 its-name.fields) ∙ (inputs_spells 4 h.sort).to its-name.fields h.fields fits)
 
-      line-said : line_from its-name.is.sort deepest part 6 n (n + 6) (n + m) ≡ some line
+      line-said : line_from its-name.is.sort deepest part 6 n (n + 6) (n + m) ≡ Some line
       unfolding line_from
-      line-said = rw kinds-said (ap (λ x. some (x ++ kinds)) name-there ∙ ap some (sym line-parts))
+      line-said = rw kinds-said (ap (λ x. Some (x ++ kinds)) name-there ∙ ap Some (sym line-parts))
 
       pub text-asks : LineRoom part 6 n (n + 6) (n + m) b
       text-asks = record {
@@ -155,12 +155,12 @@ module _ (t b : List ℕ) (k : ℕ) (e : k ≡ le_value (take 2 (drop 4 t))) whe
 
 -- where there is room for twice the record, its whole text has a fingerprint
 module _ (t : List ℕ) (d : Declaration) (h : RecordOf t d) where
-  pub text-short : (u : List ℕ) → canonical_text d ≡ some u → length u < 2 * length t
+  pub text-short : (u : List ℕ) → canonical_text d ≡ Some u → length u < 2 * length t
   text-short u e =
       let bytes : Bytes t = rw h.bytes (encode-bytes d h.well) in
       line-short t u bytes (output-is t (record { declaration = d; one = h }) ∙ ap or_wrong_sort e)
 
-  pub print-is : (n : ℕ) → 2 * length t ≤ n → (u : List ℕ) → canonical_text d ≡ some u → print_in n d ≡ print 0 u
+  pub print-is : (n : ℕ) → 2 * length t ≤ n → (u : List ℕ) → canonical_text d ≡ Some u → print_in n d ≡ print 0 u
   unfolding print_in
   print-is n l u e = rw (e, print_text, le-ltb n (length u) (omega (arith, text-short u e))) refl
 
@@ -169,5 +169,5 @@ module _ (t : List ℕ) (d : Declaration) (h : RecordOf t d) where
   print-room n m k l = go (canonical_text d) refl
     where
       go : (o : Option (List ℕ)) → canonical_text d ≡ o → print_in n d ≡ print_in m d
-      go none e = ap (print_text n) e ∙ sym (ap (print_text m) e)
-      go (some u) e = print-is n k u e ∙ sym (print-is m l u e)
+      go None e = ap (print_text n) e ∙ sym (ap (print_text m) e)
+      go (Some u) e = print-is n k u e ∙ sym (print-is m l u e)

@@ -4,7 +4,8 @@ use mathlib.Core.Path.{◌≡◌, refl, sym, ◌∙◌, ap}
 use mathlib.Core.Logic.{◌↔◌}
 use mathlib.Core.Bool.{Bool, true, false, false≢true, cond}
 use mathlib.Core.List.{List, [], ◌∷◌, ◌++◌, append-nil}
-use mathlib.Core.Option.{none, some, some-injective}
+use Rattle.std.specs.Prelude.{None, Some}
+use Rattle.std.proofs.lemmas.Option.{same_Some}
 use Prim.Native.Nat.{ℕ, ◌+◌, ◌-◌, ◌^◌, ◌≤◌, ◌<◌}
 use native.Mathlib.Omega.{arith}
 use lib.Dec.{leb, lit<}
@@ -238,7 +239,7 @@ pub record Named (n : ℕ) (t : List ℕ) (d : Declaration) : Type 0 where
   pub fields : Fields
   pub is : NamedIs (take (length t - n) (drop n t)) name fields
   pub word : is_word name ≡ true
-  pub text : canonical_text d ≡ some (canonical (record { name = name; kinds = kinds_of fields }))
+  pub text : canonical_text d ≡ Some (canonical (record { name = name; kinds = kinds_of fields }))
 
 module _ (t : List ℕ) (d : Declaration) (h : RecordOf t d) (n : ℕ) (nm : List ℕ) (fs : Fields) (sort : Sort) (r : List ℕ) where
   named-is : drop n t ≡ encode_name 4 nm ++ (encode_list 4 fs ++ r) → are_fields sort deepest fs ≡ true → NamedIs (take (length t - n) (drop n t)) nm fs
@@ -262,7 +263,7 @@ named-at t (Declaration.error nm ins) h z =
     let d = Declaration.error nm ins in
     record { name = nm; fields = ins; is = named-is t d h 6 nm ins Plain [] (body_is t d h ∙ last-list nm ins) (right (is_word nm) (valid t d h)); word = left _ (valid t d h); text = refl }
 
-pub constructor-none : (d : Declaration) → code_in d ≡ 0x21 → canonical_text d ≡ none
+pub constructor-none : (d : Declaration) → code_in d ≡ 0x21 → canonical_text d ≡ None
 unfolding code_in canonical_text name_kinds
 constructor-none (Declaration.function m nm ins outs) z = absurd (omega arith)
 constructor-none (Declaration.constructor m ins) z = refl
@@ -278,12 +279,12 @@ module _ (n : ℕ) (a b : List ℕ) (d c : Declaration) (i : Named n a d) (j : N
   named-repeats e r w =
       alike r (repeats d c) (w two-named) (
         λ h.
-            let q = some-injective _ _ (sym i.text ∙ ((repeats-same d c).0 h).1 ∙ j.text) in
+            let q = same_Some _ _ (sym i.text ∙ ((repeats-same d c).0 h).1 ∙ j.text) in
             let p = canonical_injective _ _ i.word j.word q in
             (ap (λ x. x.name) p, ap (λ x. x.kinds) p),
         λ h.
             let p : ◌≡◌ {A = Prototype} (record { name = i.name; kinds = kinds_of i.fields }) (record { name = j.name; kinds = kinds_of j.fields }) = rw (h.0, h.1) in
-            (repeats-same d c).1 (word-by d ∙ ap word_by e ∙ sym (word-by c), i.text ∙ ap (λ x. some (canonical x)) p ∙ sym j.text),
+            (repeats-same d c).1 (word-by d ∙ ap word_by e ∙ sym (word-by c), i.text ∙ ap (λ x. Some (canonical x)) p ∙ sym j.text),
       )
 
 module _ (a b : List ℕ) where

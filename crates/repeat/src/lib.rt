@@ -6,7 +6,7 @@ ghost use Rattle.std.specs.Prelude.{◌≡◌, ◌≤◌, ◌<◌, eqb, length, 
 ghost use Rattle.repeat.specs.Pairs.{TwoKinds, KindsSame, TwoLists, ListsSame, TwoNamed, NamedSame, name_at, Two, Repeats};
 ghost use Rattle.repeat.specs.Prints.{mixed, print, any, OneRecord, TextRoom, TextWrote, PrintIs};
 
-use model::Answer;
+use model::{Answer, Refused};
 
 // A record begins with its length in four bytes and its kind in two.
 const KIND: usize = 4;
@@ -176,8 +176,8 @@ fn print_checked(record: &[u8], scratch: &mut [u8]) -> u32
 {
     let r = abi::canonical(record, scratch);
     match r {
-        Answer::Accepted { length } => print(&scratch[..length]),
-        Answer::Refused { refusal, position } => 0,
+        Ok(length) => print(&scratch[..length]),
+        Err(Refused { refusal, position }) => 0,
     }
 }
 

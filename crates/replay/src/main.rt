@@ -3,228 +3,134 @@
 // 2 and 3 set to 0."
 #![tactic(auto)]
 
-ghost use Rattle.std.specs.Prelude.{IfOk, ◌+◌, ◌<◌, ◌≤◌, length};
+ghost use Rattle.std.specs.Prelude.{◌+◌, ◌<◌, ◌≤◌, length};
 
-use model::{Answer, CALLDATA, Call, MEMORY, Refusal, UNMARKED};
+use arrayvec::ArrayVec;
+use layout::{CONSTRUCTOR, FUNCTION, HEAD, KIND, NUMBERED};
+use model::{Answer, Call, Mark, Refusal, Refused};
 use std::io;
-use text::Maybe;
-
-// The calls of the list by number. Each has two counts, one for each verdict, in a row of 14.
-const GENERAL: usize = 0;
-
-const FUNCTION: usize = 1;
-
-const CONSTRUCTOR: usize = 2;
-
-const EVENT: usize = 3;
-
-const ERROR: usize = 4;
-
-const KIND: usize = 5;
-
-const OTHER: usize = 6;
-
-// Behind those counts: the rows so far, and those of them that differ.
-const ROWS: usize = 14;
-
-const DIFFERING: usize = 15;
+use std::io::Read;
 
 // How many of the differing rows are named.
 const NAMED: u64 = 10;
 
-#[derive(Clone, Copy)]
-enum Verdict {
-    Agrees,
-    Differs,
+// The longest row has 95,667 bytes, the longest text 4,096 and the longest record 40,960. No line is twice as long as its record.
+const WINDOW: usize = 131072;
+
+const TEXT: usize = 4096;
+
+const RECORD: usize = 40960;
+
+const LINE: usize = 81920;
+
+const MESSAGE: usize = 256;
+
+type Text = ArrayVec<u8, TEXT>;
+
+// A call of the list.
+#[derive(Clone, Copy, Debug, PartialEq, Eq)]
+enum Asked {
+    Declaration(Call),
+    Kind,
 }
 
-// Printing.
-
-fn print_number<R: Print>(rt: &R, n: u64) -> io::Result<()> {
-    print!(rt; "{n}")
+// How many rows of a call agree and how many differ.
+#[derive(Clone, Copy, Debug, Default, PartialEq, Eq)]
+struct Tally {
+    agree: u64,
+    differ: u64,
 }
 
-fn print_name<R: Print>(rt: &R, call: usize) -> io::Result<()> {
-    match call {
-        GENERAL => tables::print(rt, b"general"),
-        FUNCTION => tables::print(rt, b"function"),
-        CONSTRUCTOR => tables::print(rt, b"constructor"),
-        EVENT => tables::print(rt, b"event"),
-        ERROR => tables::print(rt, b"error"),
-        KIND => tables::print(rt, b"kind"),
-        _ => tables::print(rt, b"other"),
+impl Tally {
+    fn count(&mut self, agrees: bool) {
+        let counted = if agrees {
+            &mut self.agree
+        } else {
+            &mut self.differ
+        };
+        *counted = counted.wrapping_add(1);
+    }
+
+    fn print<P: Print>(self, rt: &P, name: &str) -> io::Result<()> {
+        let agree = self.agree;
+        let differ = self.differ;
+        println!(rt; "{name}: {agree} agree, {differ} differ")
     }
 }
 
-fn print_counts<R: Print>(rt: &R, call: usize, counts: &[u64; 16]) -> io::Result<()>
-    requires { call ≤ 6 }
-{
-    print_name(rt, call)?;
-    tables::print(rt, b": ")?;
-    print_number(rt, counts[2 * call])?;
-    tables::print(rt, b" agree, ")?;
-    print_number(rt, counts[2 * call + 1])?;
-    tables::print(rt, b" differ\n")
+// The rows so far, by the call; and how many differ in all.
+#[derive(Clone, Copy, Debug, Default, PartialEq, Eq)]
+struct Counts {
+    rows: u64,
+    differing: u64,
+    general: Tally,
+    function: Tally,
+    constructor: Tally,
+    event: Tally,
+    error: Tally,
+    kind: Tally,
+    other: Tally,
 }
 
-fn print_summary<R: Print>(rt: &R, counts: &[u64; 16]) -> io::Result<()> {
-    let mut call = GENERAL;
-    while call <= OTHER {
-        print_counts(rt, call, counts)?;
-        call += 1;
+impl Counts {
+    fn tally(&mut self, asked: Option<Asked>) -> &mut Tally {
+        match asked {
+            Some(Asked::Declaration(Call::General)) => &mut self.general,
+            Some(Asked::Declaration(Call::Function)) => &mut self.function,
+            Some(Asked::Declaration(Call::Constructor)) => &mut self.constructor,
+            Some(Asked::Declaration(Call::Event)) => &mut self.event,
+            Some(Asked::Declaration(Call::Error)) => &mut self.error,
+            Some(Asked::Kind) => &mut self.kind,
+            None => &mut self.other,
+        }
     }
-    Ok(())
-}
 
-// What is left where no line ends any more.
-fn print_rest<R: Print>(rt: &R, held: usize) -> io::Result<()> {
-    if held != 0 {
-        tables::print(rt, b"a line has no end, or is longer than the window\n")?;
-    }
-    Ok(())
-}
-
-// Counting.
-
-fn count(counts: &mut [u64; 16], i: usize)
-    requires { i < 16 }
-{
-    counts[i] = std::num::wrapping_add_u64(counts[i], 1);
-}
-
-fn slot(verdict: Verdict) -> usize
-    ensures { result ≤ 1 }
-{
-    match verdict {
-        Verdict::Agrees => 0,
-        Verdict::Differs => 1,
-    }
-}
-
-// Counts a differing row, and names it where few have differed.
-fn count_differing<R: Print>(rt: &R, counts: &mut [u64; 16]) -> io::Result<()> {
-    count(counts, DIFFERING);
-    if counts[DIFFERING] <= NAMED {
-        tables::print(rt, b"row ")?;
-        print_number(rt, counts[ROWS])?;
-        tables::print(rt, b" differs\n")?;
-    }
-    Ok(())
-}
-
-fn count_row<R: Print>(
-    rt: &R,
-    counts: &mut [u64; 16],
-    call: usize,
-    verdict: Verdict,
-) -> io::Result<()>
-    requires { call ≤ 6 }
-{
-    count(counts, ROWS);
-    count(counts, 2 * call + slot(verdict));
-    match verdict {
-        Verdict::Agrees => Ok(()),
-        Verdict::Differs => count_differing(rt, counts),
-    }
-}
-
-// Hex.
-
-// The value of a hex digit, and 16 for any other byte.
-fn digit(c: u8) -> u16
-    ensures { result ≤ 16 }
-{
-    if c < 48 {
-        return 16;
-    }
-    if c <= 57 {
-        return (c - 48) as u16;
-    }
-    if c < 97 {
-        return 16;
-    }
-    if c <= 102 {
-        return (c - 87) as u16;
-    }
-    16
-}
-
-// The byte of the n-th pair of digits, and 256 where there is none.
-fn pair(hex: &[u8], n: usize) -> u16
-    ensures { result ≤ 256 }
-{
-    if n < hex.len() / 2 {
-        let high = digit(hex[2 * n]);
-        let low = digit(hex[2 * n + 1]);
-        if high < 16 {
-            if low < 16 {
-                return high * 16 + low;
+    // Counts a row, and names it where it differs and few have.
+    fn count<P: Print>(&mut self, rt: &P, asked: Option<Asked>, agrees: bool) -> io::Result<()> {
+        self.rows = self.rows.wrapping_add(1);
+        self.tally(asked).count(agrees);
+        if !agrees {
+            self.differing = self.differing.wrapping_add(1);
+            if self.differing <= NAMED {
+                let row = self.rows;
+                println!(rt; "row {row} differs")?;
             }
         }
+        Ok(())
     }
-    256
-}
 
-// Writes the bytes of as many pairs as there are, or as there is room for, and answers how many.
-fn decode(hex: &[u8], out: &mut [u8]) -> usize
-    ensures { result ≤ length out.new }
-{
-    let mut n = 0;
-    while n < out.len() {
-        let byte = pair(hex, n);
-        if byte == 256 {
-            return n;
-        }
-        out[n] = byte as u8;
-        n += 1;
+    fn print<P: Print>(&self, rt: &P) -> io::Result<()> {
+        self.general.print(rt, "general")?;
+        self.function.print(rt, "function")?;
+        self.constructor.print(rt, "constructor")?;
+        self.event.print(rt, "event")?;
+        self.error.print(rt, "error")?;
+        self.kind.print(rt, "kind")?;
+        self.other.print(rt, "other")
     }
-    n
 }
 
-fn wide(byte: u8) -> u16 {
-    byte as u16
-}
+// Fields.
 
-// Whether a field says these bytes.
+// Whether a field says these bytes, in hex; `-` says none.
 fn is_hex(hex: &[u8], bytes: &[u8]) -> bool {
-    if bytes.len() == 0 {
-        return text::equal(hex, b"-");
+    if bytes.is_empty() {
+        return hex == b"-".as_slice();
     }
-    if hex.len() / 2 != bytes.len() || hex.len() % 2 != 0 {
-        return false;
-    }
-    let mut i = 0;
-    while i < bytes.len() {
-        if pair(hex, i) != wide(bytes[i]) {
-            return false;
-        }
-        i += 1;
-    }
-    true
+    hex.len() % 2 == 0
+        && hex.len() / 2 == bytes.len()
+        && hex
+            .chunks(2)
+            .zip(bytes)
+            .all(|(pair, &byte)| tables::byte_of(pair) == Some(byte))
 }
 
 // Whether a field says this number.
 fn is_number(field: &[u8], n: u64) -> bool {
-    let m = text::plain(18446744073709551615, field);
-    match m {
-        Maybe::Value(v) => v == n,
-        Maybe::Absent => false,
-    }
+    text::plain(u64::MAX, field) == Some(n)
 }
 
 // Place words.
-
-// The longest record.
-const RECORD: usize = 40960;
-
-// How many bytes a record's length and kind take, and those of a declaration with the number behind them.
-const HEAD: usize = 6;
-
-const FRONT: usize = 8;
-
-const FUNCTION_RECORD: usize = 0x20;
-
-const CONSTRUCTOR_RECORD: usize = 0x21;
 
 // The place behind the record at a place, or the end.
 fn behind(b: &[u8], at: usize) -> usize
@@ -248,16 +154,18 @@ fn behind(b: &[u8], at: usize) -> usize
 fn forget_mark(b: &mut [u8], at: usize)
     requires { at < length b.old }
 {
-    if b.len() - at < FRONT {
+    if b.len() - at < NUMBERED {
         return;
     }
-    let mark = layout::get2(b, at + HEAD);
-    if mark == CALLDATA || mark == MEMORY {
-        layout::put2(b, at + HEAD, UNMARKED);
+    if matches!(
+        Mark::try_from(layout::get2(b, at + HEAD)),
+        Ok(Mark::Calldata | Mark::Memory)
+    ) {
+        layout::put2(b, at + HEAD, Mark::Unmarked.into());
     }
 }
 
-// The same for the fields from a place up to an end.
+// The same for the fields from a place up to an end. Each step is as long as the record that stands there.
 fn forget_marks(b: &mut [u8], from: usize, end: usize)
     requires { end ≤ length b.old }
 {
@@ -289,7 +197,7 @@ fn forget_there(b: &mut [u8], at: usize) {
 fn forget_both(b: &mut [u8])
     requires { 8 < length b.old }
 {
-    let inputs = behind(b, FRONT);
+    let inputs = behind(b, NUMBERED);
     if inputs < b.len() {
         let outputs = forget_list(b, inputs);
         forget_there(b, outputs);
@@ -298,10 +206,10 @@ fn forget_both(b: &mut [u8])
 
 // The same for a declaration's own lists, of which only a function's and a constructor's have such marks.
 fn forget(b: &mut [u8]) {
-    if FRONT < b.len() {
-        match layout::get2(b, 4) {
-            FUNCTION_RECORD => forget_both(b),
-            CONSTRUCTOR_RECORD => forget_there(b, FRONT),
+    if NUMBERED < b.len() {
+        match layout::get2(b, KIND) {
+            FUNCTION => forget_both(b),
+            CONSTRUCTOR => forget_there(b, NUMBERED),
             _ => (),
         }
     }
@@ -309,293 +217,154 @@ fn forget(b: &mut [u8]) {
 
 // Whether a field says a record without its place words, which are forgotten in a copy of it.
 fn is_record(hex: &[u8], record: &[u8]) -> bool {
-    let mut copy = [0; RECORD];
-    is_forgotten(hex, record, &mut copy)
-}
-
-fn is_forgotten(hex: &[u8], record: &[u8], copy: &mut [u8]) -> bool {
-    let n = record.len();
-    if copy.len() < n {
+    let mut copy = ArrayVec::<u8, RECORD>::new();
+    if copy.try_extend_from_slice(record).is_err() {
         return false;
     }
-    layout::copy(copy, 0, record);
-    forget(&mut copy[..n]);
-    is_hex(hex, &copy[..n])
+    forget(&mut copy);
+    is_hex(hex, &copy)
 }
 
 // Rows.
 
-fn call_of(name: &[u8]) -> usize
-    ensures { result ≤ 6 }
+fn asked_by(name: &[u8]) -> Option<Asked> {
+    if name == b"kind".as_slice() {
+        return Some(Asked::Kind);
+    }
+    tables::call_of(name).map(Asked::Declaration)
+}
+
+// Whether a field says what a call writes of a record, or that there is none, which is refusal 16.
+fn says_line<A: FnOnce(&[u8], &mut [u8]) -> Answer>(field: &[u8], record: &[u8], line: A) -> bool
+    requires { A.IsAlwaysCallable line }
 {
-    if text::equal(name, b"general") {
-        return GENERAL;
+    let mut buffer = [0; LINE];
+    match line(record, &mut buffer) {
+        Ok(length) => buffer.get(..length).is_some_and(|text| is_hex(field, text)),
+        Err(refused) => refused.refusal == Refusal::WrongSort && field == b"-".as_slice(),
     }
-    if text::equal(name, b"function") {
-        return FUNCTION;
-    }
-    if text::equal(name, b"constructor") {
-        return CONSTRUCTOR;
-    }
-    if text::equal(name, b"event") {
-        return EVENT;
-    }
-    if text::equal(name, b"error") {
-        return ERROR;
-    }
-    if text::equal(name, b"kind") {
-        return KIND;
-    }
-    OTHER
-}
-
-// Whether a field says this line, or that there is none, which is refusal 16.
-fn says_line(field: &[u8], answer: Answer, line: &[u8]) -> bool {
-    match answer {
-        Answer::Accepted { length } => {
-            if line.len() < length {
-                return false;
-            }
-            is_hex(field, &line[..length])
-        }
-        Answer::Refused {
-            refusal,
-            position: _,
-        } => refusal::number(refusal) == 16 && text::equal(field, b"-"),
-    }
-}
-
-// No line is twice as long as its record.
-const LINE: usize = 81920;
-
-fn says_kind(row: &[u8], record: &[u8]) -> bool {
-    let mut line = [0; LINE];
-    let answer = abi::kind_text(record, &mut line);
-    says_line(tables::field(row, 4), answer, &line)
-}
-
-fn says_canonical(row: &[u8], record: &[u8]) -> bool {
-    let mut line = [0; LINE];
-    let answer = abi::canonical(record, &mut line);
-    says_line(tables::field(row, 4), answer, &line)
-}
-
-fn says_signature(row: &[u8], record: &[u8]) -> bool {
-    let mut line = [0; LINE];
-    let answer = abi::signature(record, &mut line);
-    says_line(tables::field(row, 5), answer, &line)
 }
 
 // Whether the row has the lines of this record.
-fn says_lines(row: &[u8], call: usize, record: &[u8]) -> bool {
-    if call == KIND {
-        return says_kind(row, record);
+fn says_lines(row: &[u8], asked: Asked, record: &[u8]) -> bool {
+    match asked {
+        Asked::Kind => says_line(tables::field(row, 4), record, abi::kind_text),
+        Asked::Declaration(_) => {
+            says_line(tables::field(row, 4), record, abi::canonical)
+                && says_line(tables::field(row, 5), record, abi::signature)
+        }
     }
-    says_canonical(row, record) && says_signature(row, record)
 }
 
 // Whether the row has this record, and its lines, which are asked of the record as it was written.
-fn says_record(row: &[u8], call: usize, length: usize, out: &[u8]) -> bool {
-    if out.len() < length {
-        return false;
-    }
-    text::equal(tables::field(row, 2), b"ok")
-        && is_record(tables::field(row, 3), &out[..length])
-        && says_lines(row, call, &out[..length])
+fn says_record(row: &[u8], asked: Asked, record: &[u8]) -> bool {
+    tables::field(row, 2) == b"ok".as_slice()
+        && is_record(tables::field(row, 3), record)
+        && says_lines(row, asked, record)
 }
 
-// The message call, for a reading call.
-fn ask_message(call: usize, text: &[u8], out: &mut [u8]) -> Answer {
-    match call {
-        GENERAL => message::message(Call::General, text, out),
-        FUNCTION => message::message(Call::Function, text, out),
-        CONSTRUCTOR => message::message(Call::Constructor, text, out),
-        EVENT => message::message(Call::Event, text, out),
-        _ => message::message(Call::Error, text, out),
-    }
-}
-
-fn is_ascii(s: &[u8]) -> bool {
-    let mut i = 0;
-    while i < s.len() {
-        if 128 <= s[i] {
-            return false;
+// Whether the row has this message. One with a character beyond ASCII, which the Rust may escape, is left to tests/compare.
+fn says_message(row: &[u8], call: Call, text: &[u8]) -> bool {
+    let mut buffer = [0; MESSAGE];
+    match message::message(call, text, &mut buffer) {
+        Ok(length) => {
+            let line = buffer.get(..length).unwrap_or(b"");
+            is_hex(tables::field(row, 5), line) || !line.is_ascii()
         }
-        i += 1;
+        Err(_) => false,
     }
-    true
-}
-
-// A message with a character beyond ASCII, which the Rust may escape, is left to tests/compare.
-fn says_words(field: &[u8], answer: Answer, line: &[u8]) -> bool {
-    says_line(field, answer, line) || !is_ascii(line)
-}
-
-fn says_message(row: &[u8], call: usize, text: &[u8]) -> bool {
-    if call == KIND {
-        return true;
-    }
-    let mut line = [0; 256];
-    let answer = ask_message(call, text, &mut line);
-    says_words(tables::field(row, 5), answer, &line)
 }
 
 // A row where the Rust panics has a number and a position, but no message.
-fn is_refused(row: &[u8], call: usize, text: &[u8]) -> bool {
-    if text::equal(tables::field(row, 2), b"panic") {
-        return true;
+fn is_refused(row: &[u8], asked: Asked, text: &[u8]) -> bool {
+    match tables::field(row, 2) {
+        b"panic" => true,
+        b"no" => match asked {
+            Asked::Declaration(call) => says_message(row, call, text),
+            Asked::Kind => true,
+        },
+        _ => false,
     }
-    text::equal(tables::field(row, 2), b"no") && says_message(row, call, text)
 }
 
 // Whether the row has this number and position, and the message.
-fn says_refusal(row: &[u8], call: usize, text: &[u8], refusal: Refusal, position: usize) -> bool {
-    is_refused(row, call, text)
-        && is_number(tables::field(row, 3), refusal::number(refusal) as u64)
-        && is_number(tables::field(row, 4), position as u64)
+fn says_refusal(row: &[u8], asked: Asked, text: &[u8], refused: Refused) -> bool {
+    is_refused(row, asked, text)
+        && is_number(tables::field(row, 3), u32::from(refused.refusal) as u64)
+        && is_number(tables::field(row, 4), refused.position as u64)
 }
 
-fn says(row: &[u8], call: usize, text: &[u8], answer: Answer, out: &[u8]) -> bool {
-    match answer {
-        Answer::Accepted { length } => says_record(row, call, length, out),
-        Answer::Refused { refusal, position } => says_refusal(row, call, text, refusal, position),
+fn ask(asked: Asked, text: &[u8], record: &mut [u8]) -> Answer {
+    match asked {
+        Asked::Declaration(call) => declaration::read(call, text, record),
+        Asked::Kind => kind_call::parse_kind(text, record),
     }
 }
 
-fn judged(agrees: bool) -> Verdict {
-    if agrees {
-        return Verdict::Agrees;
+// Whether a call answers a text as the row says.
+fn agrees(row: &[u8], asked: Asked, text: &[u8]) -> bool {
+    let mut record = [0; RECORD];
+    match ask(asked, text, &mut record) {
+        Ok(length) => record
+            .get(..length)
+            .is_some_and(|record| says_record(row, asked, record)),
+        Err(refused) => says_refusal(row, asked, text, refused),
     }
-    Verdict::Differs
-}
-
-fn ask(call: usize, text: &[u8], out: &mut [u8]) -> Answer {
-    match call {
-        GENERAL => declaration::parse_declaration(text, out),
-        FUNCTION => declaration::parse_function(text, out),
-        CONSTRUCTOR => declaration::parse_constructor(text, out),
-        EVENT => declaration::parse_event(text, out),
-        ERROR => declaration::parse_error(text, out),
-        _ => kind_call::parse_kind(text, out),
-    }
-}
-
-// What a call answers, beside the row.
-fn replay_text(call: usize, text: &[u8], row: &[u8], out: &mut [u8]) -> Verdict {
-    if call == OTHER {
-        return Verdict::Differs;
-    }
-    let answer = ask(call, text, out);
-    judged(says(row, call, text, answer, out))
 }
 
 // A text that is not decoded whole differs.
-fn replay_row<R: Print>(
-    rt: &R,
-    row: &[u8],
-    text: &mut [u8],
-    out: &mut [u8],
-    counts: &mut [u64; 16],
-) -> io::Result<()> {
-    let call = call_of(tables::field(row, 0));
-    let n = decode(tables::field(row, 1), text);
-    if is_hex(tables::field(row, 1), &text[..n]) {
-        count_row(rt, counts, call, replay_text(call, &text[..n], row, out))
-    } else {
-        count_row(rt, counts, call, Verdict::Differs)
-    }
+fn replay_row<P: Print>(rt: &P, counts: &mut Counts, row: &[u8]) -> io::Result<()> {
+    let asked = asked_by(tables::field(row, 0));
+    let hex = tables::field(row, 1);
+    let text: Text = tables::bytes_of(hex);
+    let same = match asked {
+        Some(asked) => is_hex(hex, &text) && agrees(row, asked, &text),
+        None => false,
+    };
+    counts.count(rt, asked, same)
 }
 
-// Replays the whole lines of a block, and answers how many bytes they take.
-fn replay_lines<R: Print>(
-    rt: &R,
-    block: &[u8],
-    text: &mut [u8],
-    out: &mut [u8],
-    counts: &mut [u64; 16],
-) -> io::Result<usize>
-    ensures { IfOk result (λ n. n ≤ length block.now) }
-{
-    let mut at = 0;
-    while at < block.len() {
-        let end = tables::find(b'\n', block, at);
-        if end == block.len() {
-            return Ok(at);
-        }
-        replay_row(rt, &block[at..end], text, out, counts)?;
-        at = end + 1;
-    }
-    Ok(at)
-}
-
-// Reading.
-
-// Reads on behind the bytes that a window holds, and answers how many it holds then.
-fn refill<R: Input>(rt: &R, window: &mut [u8], held: usize) -> io::Result<usize>
-    requires { held ≤ length window.old }
-    ensures { IfOk result (λ n. n ≤ length window.new) }
-{
-    let n = tables::read_full(rt, &mut window[held..])?;
-    Ok(held + n)
-}
-
-// Moves the bytes from a place up to an end to the front, and answers how many they are.
-fn keep(window: &mut [u8], from: usize, end: usize) -> usize
-    requires { (from ≤ end) × (end ≤ length window.old) }
-    ensures { result ≤ length window.new }
-{
-    let n = end - from;
-    let mut i = 0;
-    while i < n {
-        window[i] = window[from + i];
-        i += 1;
-    }
-    n
-}
-
-// Replays one window's lines, and answers how many bytes are left over.
-fn replay_window<R: Print>(
-    rt: &R,
-    window: &mut [u8],
-    end: usize,
-    text: &mut [u8],
-    out: &mut [u8],
-    counts: &mut [u64; 16],
-) -> io::Result<usize>
-    requires { end ≤ length window.old }
-    ensures { IfOk result (λ n. n ≤ length window.new) }
-{
-    let done = replay_lines(rt, &window[..end], text, out, counts)?;
-    Ok(keep(window, done, end))
-}
-
-// Replays the list to its end. Nothing says that an input ends, so the turns are counted down from a number that none uses up.
-fn replay_list<R: Input + Print>(
-    rt: &R,
-    window: &mut [u8],
-    text: &mut [u8],
-    out: &mut [u8],
-    counts: &mut [u64; 16],
-) -> io::Result<()> {
-    let mut held = 0;
-    let mut turns = u64::MAX;
-    while 0 < turns {
-        let end = refill(rt, window, held)?;
-        if end == held {
-            return print_rest(rt, held);
-        }
-        held = replay_window(rt, window, end, text, out, counts)?;
-        turns -= 1;
+// Replays whole lines.
+fn replay_lines<P: Print>(rt: &P, counts: &mut Counts, lines: &[u8]) -> io::Result<()> {
+    for line in lines.split_inclusive(|&byte| byte == b'\n') {
+        replay_row(rt, counts, line.strip_suffix(b"\n").unwrap_or(line))?;
     }
     Ok(())
 }
 
-// The longest row has 95,667 bytes, the longest text 4,096 and the longest record 40,960.
+// How many bytes of a window are whole lines.
+fn whole_lines(window: &[u8]) -> usize
+    ensures { result ≤ length window.now }
+{
+    match window.iter().rposition(|&byte| byte == b'\n') {
+        Some(end) => (end + 1).min(window.len()),
+        None => 0,
+    }
+}
+
+// Replays the list to its end, by windows that whole lines are taken from. Nothing says that an input ends, so the turns are counted, up to a number
+// that none uses up.
+fn replay_list<P: Input + Print>(rt: &P, counts: &mut Counts) -> io::Result<()> {
+    let mut window = ArrayVec::<u8, WINDOW>::new();
+    for _ in 0..u64::MAX {
+        let held = window.len();
+        let room = window.remaining_capacity() as u64;
+        io::copy(&mut rt.reader().take(room), &mut window)?;
+        if window.len() == held {
+            break;
+        }
+        let done = whole_lines(&window);
+        replay_lines(rt, counts, &window[..done])?;
+        window.drain(..done);
+    }
+    if !window.is_empty() {
+        println!(rt; "a line has no end, or is longer than the window")?;
+    }
+    Ok(())
+}
+
 fn main(rt: HostRuntime) -> io::Result<()> {
-    let mut window = [0; 131072];
-    let mut text = [0; 4096];
-    let mut out = [0; RECORD];
-    let mut counts = [0; 16];
-    replay_list(&rt, &mut window, &mut text, &mut out, &mut counts)?;
-    print_summary(&rt, &counts)
+    let mut counts = Counts::default();
+    replay_list(&rt, &mut counts)?;
+    counts.print(&rt)
 }

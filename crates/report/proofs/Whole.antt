@@ -1,9 +1,10 @@
 -- The line, by what is read of the text and what its record says.
 -- Assumes nothing.
+use Rattle.std.specs.Prelude.{Ok}
 use mathlib.Core.Path.{◌≡◌, refl, sym, ◌∙◌, ap}
 use mathlib.Core.Bool.{true}
 use mathlib.Core.List.{List, [], ◌++◌, append_assoc, append-nil}
-use mathlib.Core.Option.{none, some}
+use Rattle.std.specs.Prelude.{None, Some}
 use Prim.Native.Nat.{ℕ, ◌+◌, ◌*◌, ◌-◌, ◌≤◌, ◌<◌}
 use native.Mathlib.Omega.{arith}
 use native.Mathlib.Nat.{zero-add}
@@ -18,15 +19,13 @@ use Rattle.model.specs.declared.Refusal.{Refusal}
 use Rattle.model.specs.declared.Keyword.{Keyword}
 use Rattle.model.specs.declared.Keyword.TheVariants as key
 use Rattle.model.specs.declared.Call.TheVariants as call
-use Rattle.model.specs.declared.Answer.{Answer}
-use Rattle.model.specs.declared.Answer.TheVariants.{Accepted, Refused}
 use Rattle.model.specs.declared.Sort.{Sort}
 use Rattle.model.specs.Tree.{Declaration, Fields, kinds_of, name_kinds}
 use Rattle.model.specs.Parser.{Ans, got, bad, deep}
 use Rattle.model.specs.Reading.{parse}
 use Rattle.model.specs.Record.{encode, decode, decode_lone, well_formed}
 use Rattle.model.specs.Line.{keyword_in, canonical_text}
-use Rattle.model.specs.Answer.{accepted, refused, Output, writes, said, outcome, after, handed, number}
+use Rattle.model.specs.Answer.{accepted, refused, Output, writes, said, outcome, after, handed, number, Answer, refusing}
 use Rattle.model.specs.Calls.{written, read_output, canonical_output}
 use Rattle.model.specs.Deposit.{no_line, deposit_by, deposit_line}
 use Rattle.model.proofs.Records.{decode-exactly, encode-bytes}
@@ -80,15 +79,15 @@ module _ (k : Keyword) (b out out₁ : List ℕ) (p : ℕ) (fits : length b < 18
     behind-long = rw behind-is (omega (arith, length-drop p out₁, size, front-end))
 
     module _ (a : Answer) (says : said a ≡ outcome (length behind) (canonical_output b)) where
-      pub text-long : (m : ℕ) → a ≡ Accepted m → m ≡ length u
+      pub text-long : (m : ℕ) → a ≡ Ok m → m ≡ length u
       unfolding said
       text-long m f = accepted-same (rw f at says ∙ enough (canonical_output b) u e behind behind-long)
 
-      no_refusal : (w : Refusal) (q : ℕ) → a ≡ Refused w q → ⊥
+      no_refusal : (w : Refusal) (q : ℕ) → a ≡ refusing w q → ⊥
       unfolding said
       no_refusal w q f = refused-not (rw f at says ∙ enough (canonical_output b) u e behind behind-long)
 
-      pub lined-accepted : (t : List ℕ) (m : ℕ) → a ≡ Accepted m → t ≡ after behind (canonical_output b)
+      pub lined-accepted : (t : List ℕ) (m : ℕ) → a ≡ Ok m → t ≡ after behind (canonical_output b)
           → Put 0 (ok_front k (length b) ++ u) out (take p out₁ ++ (t ++ drop (length out₁ - p) (drop p out₁))) (p + m)
       unfolding put
       lined-accepted t m f g =
@@ -98,10 +97,10 @@ module _ (k : Keyword) (b out out₁ : List ℕ) (p : ℕ) (fits : length b < 18
           let same : take p out₁ ++ (t ++ drop (length out₁ - p) (drop p out₁)) ≡ put p u out₁ = rw (all, append-nil, t-is) in
           put_then 0 (ok_front k (length b)) u out out₁ _ p (p + m) (omega (arith, short-front k (length b) fits)) i (record { same = same; end = omega arith })
 
-      pub lined-refused : (t : List ℕ) (w : Refusal) (q : ℕ) → a ≡ Refused w q → Put 0 (ok_front k (length b) ++ u) out t p
+      pub lined-refused : (t : List ℕ) (w : Refusal) (q : ℕ) → a ≡ refusing w q → Put 0 (ok_front k (length b) ++ u) out t p
       lined-refused t w q f = absurd (no_refusal w q f)
 
-      pub lined-inside : (m : ℕ) → a ≡ Accepted m → p + m ≤ length out
+      pub lined-inside : (m : ℕ) → a ≡ Ok m → p + m ≤ length out
       lined-inside m f = omega (arith, text-long m f, front-end)
 
 -- What a record says, and its line.
@@ -112,7 +111,7 @@ pub record HasLine (b : List ℕ) (k : Keyword) : Type 0 where
   pub small : length (handed (canonical_output b)) ≤ 3 * length b + 2
   pub line : record_line b ≡ ok_front k (length b) ++ handed (canonical_output b)
 
-has-line : (b : List ℕ) (d : Declaration) (p : Prototype) (k : Keyword) → decode b ≡ some d → name_kinds d ≡ some p → keyword_in d ≡ k → length (canonical p) ≤ 3 * length b + 2 → HasLine b k
+has-line : (b : List ℕ) (d : Declaration) (p : Prototype) (k : Keyword) → decode b ≡ Some d → name_kinds d ≡ Some p → keyword_in d ≡ k → length (canonical p) ≤ 3 * length b + 2 → HasLine b k
 unfolding canonical_output canonical_text handed record_line line_by
 has-line b d p k e f g h =
     let o : canonical_output b ≡ writes (canonical p) = rw (canonical_output, e, canonical_text, f) in
@@ -161,7 +160,7 @@ module _ (b : List ℕ) (c : Checked) (h : Says b (decode b) (decode_lone b) c) 
         let f = (rw e at h).0 in
         put_as 0 _ _ out out₁ r (sym (rw (record_line, f.same, line_by))) p
 
-  nothing : (out : List ℕ) → decode b ≡ none → Put 0 (record_line b) out out 0
+  nothing : (out : List ℕ) → decode b ≡ None → Put 0 (record_line b) out out 0
   unfolding record_line line_by
   nothing out e = put_as 0 [] (record_line b) out out 0 (sym (rw (record_line, e, line_by))) (record { same = put-none out 0; end = refl })
 
@@ -193,7 +192,7 @@ written-line : (s : List ℕ) (d : Declaration) (n : ℕ) → parse call.General
 unfolding record_line line_by ok_front deposit_line deposit_by
 written-line s d n e =
     let w : well_formed d ≡ true = read-well-formed call.General s d n e in
-    let q : decode (encode 4 d) ≡ some d = (decode-exactly (encode 4 d) d (encode-bytes d w)).1 (w, refl) in
+    let q : decode (encode 4 d) ≡ Some d = (decode-exactly (encode 4 d) d (encode-bytes d w)).1 (w, refl) in
     let a = accepts call.General s d n e in
     record {
       short = omega (arith, a.paid, a.within, a.short);
@@ -205,7 +204,7 @@ module _ (s b b₁ : List ℕ) (a : Answer) (big : 40960 ≤ length b) (says : s
     pub long : m ≤ length b₁
     pub holds : Written s (take m b₁)
 
-  pub read-accepted : (m : ℕ) → a ≡ Accepted m → Read m
+  pub read-accepted : (m : ℕ) → a ≡ Ok m → Read m
   unfolding said read_output written outcome
   read-accepted m e = go (parse call.General s) refl (rw e at says)
     where
@@ -224,7 +223,7 @@ module _ (s b b₁ : List ℕ) (a : Answer) (big : 40960 ≤ length b) (says : s
       go (bad v q) f g = absurd (refused-not (sym g))
       go (deep q) f g = absurd (refused-not (sym g))
 
-  pub read-refused : (w : Refusal) (p : ℕ) → a ≡ Refused w p → no_line (number w) p ≡ deposit_line s
+  pub read-refused : (w : Refusal) (p : ℕ) → a ≡ refusing w p → no_line (number w) p ≡ deposit_line s
   unfolding said read_output written outcome deposit_line deposit_by
   read-refused w p e = go (parse call.General s) refl (rw e at says)
     where
@@ -239,8 +238,8 @@ module _ (s b b₁ : List ℕ) (a : Answer) (big : 40960 ≤ length b) (says : s
       go (deep q) f g = cc
 
   module _ (out out₁ : List ℕ) (r : ℕ) where
-    pub line-accepted : (m : ℕ) → a ≡ Accepted m → Put 0 (record_line (take m b₁)) out out₁ r → Lines s out out₁ r
+    pub line-accepted : (m : ℕ) → a ≡ Ok m → Put 0 (record_line (take m b₁)) out out₁ r → Lines s out out₁ r
     line-accepted m e p = lines s _ out out₁ r (read-accepted m e).holds.line p
 
-    pub line_refused : (w : Refusal) (p n : ℕ) → a ≡ Refused w p → n ≡ number w → Put 0 (no_line n p) out out₁ r → Lines s out out₁ r
+    pub line_refused : (w : Refusal) (p n : ℕ) → a ≡ refusing w p → n ≡ number w → Put 0 (no_line n p) out out₁ r → Lines s out out₁ r
     line_refused w p n e f q = lines s _ out out₁ r (rw f (read-refused w p e)) q

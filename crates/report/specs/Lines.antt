@@ -1,7 +1,6 @@
 -- What the writers leave, and the parts of the line.
 -- Assumes nothing.
-use Rattle.std.specs.Prelude.{◌≡◌, List, [], ◌++◌, ℕ, ◌+◌, length}
-use Rattle.std.proofs.Math.Option.{Option, none, some}
+use Rattle.std.specs.Prelude.{◌≡◌, List, [], ◌++◌, ℕ, ◌+◌, length, Option, None, Some}
 use Rattle.kinds.specs.Bytes.{ascii}
 use Rattle.kinds.specs.Decimal.{decimal}
 use Rattle.layout.specs.Buffer.{put}
@@ -23,8 +22,8 @@ ok_front k n = ascii "ok " ++ (keyword_text k ++ (ascii " " ++ (decimal n ++ asc
 
 -- the line of what a record says that is n bytes long, empty where it is none of a declaration
 unfoldable pub line_by : ℕ → Option Declaration → List ℕ
-line_by n none = []
-line_by n (some d) = ok_front (keyword_in d) n ++ or_dash (canonical_text d)
+line_by n None = []
+line_by n (Some d) = ok_front (keyword_in d) n ++ or_dash (canonical_text d)
 
 unfoldable pub record_line : List ℕ → List ℕ
 record_line b = line_by (length b) (decode b)

@@ -11,7 +11,7 @@ ghost use Rattle.model.specs.Calls.{canonical_output};
 ghost use Rattle.model.specs.Deposit.{no_line, deposit_line};
 ghost use Rattle.report.specs.Lines.{Put, ok_front, record_line};
 
-use model::{Answer, Keyword};
+use model::{Answer, Call, Keyword, Refused};
 use record::Checked;
 
 // Each writer writes at a place and answers the place behind.
@@ -75,8 +75,8 @@ fn lined(keyword: Keyword, record: &[u8], out: &mut [u8]) -> usize
     let p = front(keyword, record.len(), out);
     let answer = abi::canonical(record, &mut out[p..]);
     match answer {
-        Answer::Accepted { length } => p + length,
-        Answer::Refused { refusal, position } => p,
+        Ok(length) => p + length,
+        Err(Refused { refusal, position }) => p,
     }
 }
 
@@ -116,11 +116,9 @@ pub fn line(text: &[u8], out: &mut [u8]) -> usize
     ensures inside { result ≤ length out.new }
 {
     let mut record = [0u8; 40960];
-    let answer = declaration::parse_declaration(text, &mut record);
+    let answer = declaration::read(Call::General, text, &mut record);
     match answer {
-        Answer::Accepted { length } => accepted(&record[..length], out),
-        Answer::Refused { refusal, position } => {
-            refused(refusal::number(refusal), position, out)
-        }
+        Ok(length) => accepted(&record[..length], out),
+        Err(Refused { refusal, position }) => { refused(u32::from(refusal), position, out) }
     }
 }

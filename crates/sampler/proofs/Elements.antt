@@ -4,14 +4,11 @@ use mathlib.Core.Path.{◌≡◌, refl, sym, ap}
 use mathlib.Core.Logic.{◌↔◌, ◌⊎◌, inl, inr}
 use mathlib.Core.Bool.{Bool, true}
 use mathlib.Core.List.{List, [], ◌∷◌, ◌++◌, map}
-use mathlib.Core.Option.{none, some, none-ne-some, some-injective}
-use Prim.Native.Nat.{ℕ, zero, suc, ◌-◌, ◌≤◌, ◌<◌}
-use native.Mathlib.Nat.{sub-zero}
-use native.Mathlib.Omega.{arith}
-use lib.ListN.{length, get_elem?}
+use Rattle.std.specs.Prelude.{Some, slice_get}
+use Rattle.std.proofs.lemmas.Option.{none-some, same_Some}
+use Prim.Native.Nat.{ℕ, zero, suc}
 use Rattle.kinds.specs.Bytes.{all}
 use Rattle.kinds.proofs.Logic.{left, right}
-use Rattle.model.specs.Record.{on_option}
 
 module _ {A : Type 0} where
   -- x is in a list
@@ -51,62 +48,34 @@ module _ {A : Type 0} where
       go (inr i) = f x (inl refl) i
 
   -- what is in a list has an index
-  pub index_in : (xs : List A) (i : ℕ) (x : A) → get_elem? xs i ≡ some x → In x xs
-  index_in [] i x e = absurd (none-ne-some x e)
-  index_in (y ∷ xs) zero x e = inl (sym (some-injective _ _ e))
+  pub index_in : (xs : List A) (i : ℕ) (x : A) → slice_get xs i ≡ Some x → In x xs
+  index_in [] i x e = absurd (none-some x e)
+  index_in (y ∷ xs) zero x e = inl (sym (same_Some _ _ e))
   index_in (y ∷ xs) (suc i) x e = inr (index_in xs i x e)
 
-  in_index : (x : A) (xs : List A) → In x xs → (i : ℕ) × (get_elem? xs i ≡ some x)
+  in_index : (x : A) (xs : List A) → In x xs → (i : ℕ) × (slice_get xs i ≡ Some x)
   in_index x [] i = absurd i
-  in_index x (y ∷ xs) (inl e) = (0, ap some (sym e))
+  in_index x (y ∷ xs) (inl e) = (0, ap Some (sym e))
   in_index x (y ∷ xs) (inr i) = let (n, e) = in_index x xs i in (suc n, e)
 
-  pub in_by_index : (x : A) (xs : List A) → ((i : ℕ) × (get_elem? xs i ≡ some x)) ↔ In x xs
+  pub in_by_index : (x : A) (xs : List A) → ((i : ℕ) × (slice_get xs i ≡ Some x)) ↔ In x xs
   in_by_index x xs = (λ (i, e). index_in xs i x e, in_index x xs)
 
   -- and where none is there twice, one only
-  pub once_index : (xs : List A) → Once xs → (i j : ℕ) (x : A) → get_elem? xs i ≡ some x → get_elem? xs j ≡ some x → i ≡ j
-  once_index [] o i j x e f = absurd (none-ne-some x e)
+  pub once_index : (xs : List A) → Once xs → (i j : ℕ) (x : A) → slice_get xs i ≡ Some x → slice_get xs j ≡ Some x → i ≡ j
+  once_index [] o i j x e f = absurd (none-some x e)
   once_index (y ∷ xs) o zero zero x e f = refl
-  once_index (y ∷ xs) o zero (suc j) x e f = absurd (o.0 (rw (some-injective _ _ e) (index_in xs j x f)))
-  once_index (y ∷ xs) o (suc i) zero x e f = absurd (o.0 (rw (some-injective _ _ f) (index_in xs i x e)))
+  once_index (y ∷ xs) o zero (suc j) x e f = absurd (o.0 (rw (same_Some _ _ e) (index_in xs j x f)))
+  once_index (y ∷ xs) o (suc i) zero x e f = absurd (o.0 (rw (same_Some _ _ f) (index_in xs i x e)))
   once_index (y ∷ xs) o (suc i) (suc j) x e f = ap suc (once_index xs o.1 i j x e f)
 
-  -- what stands at an index
-  pub at_some : (xs : List A) (i : ℕ) → i < length xs → (x : A) × (get_elem? xs i ≡ some x)
-  at_some [] i h = absurd (omega arith)
-  at_some (y ∷ xs) zero h = (y, refl)
-  at_some (y ∷ xs) (suc i) h = at_some xs i (omega arith)
-
-  pub at_none : (xs : List A) (i : ℕ) → length xs ≤ i → get_elem? xs i ≡ none
-  at_none [] i h = refl
-  at_none (y ∷ xs) zero h = absurd (omega arith)
-  at_none (y ∷ xs) (suc i) h = at_none xs i (omega arith)
-
-  pub at_left : (xs ys : List A) (i : ℕ) → i < length xs → get_elem? (xs ++ ys) i ≡ get_elem? xs i
-  at_left [] ys i h = absurd (omega arith)
-  at_left (x ∷ xs) ys zero h = refl
-  at_left (x ∷ xs) ys (suc i) h = at_left xs ys i (omega arith)
-
-  pub at_right : (xs ys : List A) (i : ℕ) → length xs ≤ i → get_elem? (xs ++ ys) i ≡ get_elem? ys (i - length xs)
-  at_right [] ys i h = rw sub-zero
-  at_right (x ∷ xs) ys zero h = absurd (omega arith)
-  at_right (x ∷ xs) ys (suc i) h =
-      let e : suc i - suc (length xs) ≡ i - length xs = omega arith in
-      rw e (at_right xs ys i (omega arith))
-
   -- what every element passes
-  pub all-at : (p : A → Bool) (xs : List A) (i : ℕ) (x : A) → all p xs ≡ true → get_elem? xs i ≡ some x → p x ≡ true
-  all-at p [] i x h e = absurd (none-ne-some x e)
-  all-at p (y ∷ xs) zero x h e = rw (← some-injective _ _ e) (left _ h)
+  pub all-at : (p : A → Bool) (xs : List A) (i : ℕ) (x : A) → all p xs ≡ true → slice_get xs i ≡ Some x → p x ≡ true
+  all-at p [] i x h e = absurd (none-some x e)
+  all-at p (y ∷ xs) zero x h e = rw (← same_Some _ _ e) (left _ h)
   all-at p (y ∷ xs) (suc i) x h e = all-at p xs i x (right (p y) h) e
 
 module _ {A B : Type 0} (f : A → B) where
-  pub at_map : (xs : List A) (i : ℕ) → get_elem? (map f xs) i ≡ on_option f (get_elem? xs i)
-  at_map [] i = refl
-  at_map (x ∷ xs) zero = refl
-  at_map (x ∷ xs) (suc i) = at_map xs i
-
   pub in_map : (x : A) (xs : List A) → In x xs → In (f x) (map f xs)
   in_map x [] i = i
   in_map x (y ∷ xs) (inl e) = inl (ap f e)

@@ -3,8 +3,7 @@ pub mod Sampled
 pub mod Next
 pub mod Examples
 pub mod Counts
-pub mod Parts
 pub mod Texts
-pub mod Writing
+pub mod Parts
 pub mod Small
 pub mod Sampling

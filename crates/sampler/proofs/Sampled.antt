@@ -4,12 +4,12 @@ use mathlib.Core.Path.{◌≡◌, refl, sym, ◌∙◌, ap}
 use mathlib.Core.Logic.{◌↔◌, ◌⊎◌, inl, inr}
 use mathlib.Core.Bool.{Bool, true, false}
 use mathlib.Core.List.{List, [], ◌∷◌, ◌++◌, map}
-use mathlib.Core.Option.{Option, none, some, none-ne-some, some-injective}
+use Rattle.std.specs.Prelude.{Option, None, Some, slice_get}
+use Rattle.std.proofs.lemmas.Option.{none-some, same_Some}
 use Prim.Native.Nat.{ℕ, zero, suc, ◌+◌, ◌*◌, ◌-◌, ◌≤◌}
 use native.Mathlib.Nat.{add-zero, sub-zero}
 use native.Mathlib.Omega.{arith}
 use lib.Dec.{eqb}
-use lib.ListN.{get_elem?}
 use borrow.Author.Tests.{eqb-true}
 use Rattle.kinds.specs.Kind.{bits, Elementary, int, uint, fixed_bytes, address, bool, function, bytes, string, sized, unsized, Kind, elementary, tuple, array, Kinds, no_kind, more_kinds}
 use Rattle.model.specs.Record.{on_option}
@@ -101,7 +101,7 @@ abbrev tuples_in : ℕ → ℕ → List Kind
 tuples_in f w = map tuple (lists_in f w)
 
 -- what is in a list weighs what the list says
-four_weighs : (k : Kind) (w : ℕ) → In k (fours w) → weight k ≡ some (suc w)
+four_weighs : (k : Kind) (w : ℕ) → In k (fours w) → weight k ≡ Some (suc w)
 unfolding weight elementary_weight
 four_weighs k zero (inl e) = rw e
 four_weighs k zero (inr (inl e)) = rw e
@@ -110,52 +110,52 @@ four_weighs k zero (inr (inr (inr (inl e)))) = rw e
 four_weighs k zero (inr (inr (inr (inr i)))) = absurd i
 four_weighs k (suc w) i = absurd i
 
-array_weighs : (k j : Kind) (w : ℕ) → k ≡ array j unsized → weight j ≡ some w → weight k ≡ some (suc w)
+array_weighs : (k j : Kind) (w : ℕ) → k ≡ array j unsized → weight j ≡ Some w → weight k ≡ Some (suc w)
 unfolding weight
 array_weighs k j w e h = rw (e, h)
 
-tuple_weighs : (k : Kind) (ks : Kinds) (w : ℕ) → k ≡ tuple ks → weights ks ≡ some w → weight k ≡ some (suc w)
+tuple_weighs : (k : Kind) (ks : Kinds) (w : ℕ) → k ≡ tuple ks → weights ks ≡ Some w → weight k ≡ Some (suc w)
 unfolding weight weights
 tuple_weighs k ks w e h = rw (e, h)
 
-more_weigh : (z : Kinds) (k : Kind) (ks : Kinds) (w v : ℕ) → z ≡ more_kinds k ks → weight k ≡ some w → weights ks ≡ some v → weights z ≡ some (w + v)
+more_weigh : (z : Kinds) (k : Kind) (ks : Kinds) (w v : ℕ) → z ≡ more_kinds k ks → weight k ≡ Some w → weights ks ≡ Some v → weights z ≡ Some (w + v)
 unfolding weight weights
 more_weigh z k ks w v e h i = rw (e, h, i)
 
-none_weighs : (z : Kinds) → In z (no_kind ∷ []) → weights z ≡ some 0
+none_weighs : (z : Kinds) → In z (no_kind ∷ []) → weights z ≡ Some 0
 unfolding weight weights
 none_weighs z (inl e) = rw e
 none_weighs z (inr i) = absurd i
 
-kinds-by : (f w : ℕ) → ((k : Kind) (v : ℕ) → In k (kinds_in f v) → weight k ≡ some v) → ((ks : Kinds) (v : ℕ) → In ks (lists_in f v) → weights ks ≡ some v)
-    → (k : Kind) → In k (fours w ++ (arrays_in f w ++ tuples_in f w)) → weight k ≡ some (suc w)
+kinds-by : (f w : ℕ) → ((k : Kind) (v : ℕ) → In k (kinds_in f v) → weight k ≡ Some v) → ((ks : Kinds) (v : ℕ) → In ks (lists_in f v) → weights ks ≡ Some v)
+    → (k : Kind) → In k (fours w ++ (arrays_in f w ++ tuples_in f w)) → weight k ≡ Some (suc w)
 kinds-by f w K L k i = go (in_either k (fours w) _ i)
   where
-    go₂ : In k (arrays_in f w) ⊎ In k (tuples_in f w) → weight k ≡ some (suc w)
+    go₂ : In k (arrays_in f w) ⊎ In k (tuples_in f w) → weight k ≡ Some (suc w)
     go₂ (inl j) = let (x, l, e) = in_mapped (λ k. array k unsized) k (kinds_in f w) j in array_weighs k x w e (K x w l)
     go₂ (inr j) = let (x, l, e) = in_mapped tuple k (lists_in f w) j in tuple_weighs k x w e (L x w l)
 
-    go : In k (fours w) ⊎ In k (arrays_in f w ++ tuples_in f w) → weight k ≡ some (suc w)
+    go : In k (fours w) ⊎ In k (arrays_in f w ++ tuples_in f w) → weight k ≡ Some (suc w)
     go (inl j) = four_weighs k w j
     go (inr j) = go₂ (in_either k (arrays_in f w) (tuples_in f w) j)
 
-lists_by : (f w : ℕ) → ((k : Kind) (v : ℕ) → In k (kinds_in f v) → weight k ≡ some v) → ((ks : Kinds) (v : ℕ) → In ks (lists_in f v) → weights ks ≡ some v)
-    → (z : Kinds) → In z (spread (λ i. kinds_in f i) (λ i. lists_in f i) 1 w) → weights z ≡ some (suc w)
+lists_by : (f w : ℕ) → ((k : Kind) (v : ℕ) → In k (kinds_in f v) → weight k ≡ Some v) → ((ks : Kinds) (v : ℕ) → In ks (lists_in f v) → weights ks ≡ Some v)
+    → (z : Kinds) → In z (spread (λ i. kinds_in f i) (λ i. lists_in f i) 1 w) → weights z ≡ Some (suc w)
 lists_by f w K L z i =
     let s = spread_in (λ i. kinds_in f i) (λ i. lists_in f i) z 1 w i in
     let c = in_chained z (kinds_in f (1 + s.step)) (lists_in f (w - s.step)) s.there in
     let sum : 1 + s.step + (w - s.step) ≡ suc w = omega (arith, s.within) in
-    more_weigh z c.first c.rest (1 + s.step) (w - s.step) c.same (K _ _ c.first_in) (L _ _ c.rest_in) ∙ ap some sum
+    more_weigh z c.first c.rest (1 + s.step) (w - s.step) c.same (K _ _ c.first_in) (L _ _ c.rest_in) ∙ ap Some sum
 
 mutual
   unfolding kinds_in lists_in
 
-  in_weighs : (f : ℕ) (k : Kind) (w : ℕ) → In k (kinds_in f w) → weight k ≡ some w
+  in_weighs : (f : ℕ) (k : Kind) (w : ℕ) → In k (kinds_in f w) → weight k ≡ Some w
   in_weighs zero k w i = absurd i
   in_weighs (suc f) k zero i = absurd i
   in_weighs (suc f) k (suc w) i = kinds-by f w (λ j v x. in_weighs f j v x) (λ js v x. in_weigh f js v x) k i
 
-  in_weigh : (f : ℕ) (ks : Kinds) (w : ℕ) → In ks (lists_in f w) → weights ks ≡ some w
+  in_weigh : (f : ℕ) (ks : Kinds) (w : ℕ) → In ks (lists_in f w) → weights ks ≡ Some w
   in_weigh zero ks w i = absurd i
   in_weigh (suc f) ks zero i = none_weighs ks i
   in_weigh (suc f) ks (suc w) i = lists_by f w (λ j v x. in_weighs f j v x) (λ js v x. in_weigh f js v x) ks i
@@ -216,7 +216,7 @@ kinds-once f w o p =
             let z : ◌≡◌ {A = ℕ} 0 1 = cc in omega arith
 
 same-weight : (f : ℕ) (k : Kind) (i j : ℕ) → In k (kinds_in f i) → In k (kinds_in f j) → i ≡ j
-same-weight f k i j x y = some-injective _ _ (sym (in_weighs f k i x) ∙ in_weighs f k j y)
+same-weight f k i j x y = same_Some _ _ (sym (in_weighs f k i x) ∙ in_weighs f k j y)
 
 mutual
   unfolding kinds_in lists_in
@@ -232,48 +232,48 @@ mutual
   once_lists (suc f) (suc w) = once-spread (λ i. kinds_in f i) (λ i. lists_in f i) (same-weight f) (λ i. once-kinds f i) (λ i. once_lists f i) 1 w
 
 -- each is there
-heavier_from : {Q : Type 0} (o : Option ℕ) (w : ℕ) → on_option suc o ≡ some w → ((v : ℕ) → o ≡ some v → w ≡ suc v → Q) → Q
-heavier_from none w e next = absurd (none-ne-some w e)
-heavier_from (some v) w e next = next v refl (sym (some-injective _ _ e))
+heavier_from : {Q : Type 0} (o : Option ℕ) (w : ℕ) → on_option suc o ≡ Some w → ((v : ℕ) → o ≡ Some v → w ≡ suc v → Q) → Q
+heavier_from None w e next = absurd (none-some w e)
+heavier_from (Some v) w e next = next v refl (sym (same_Some _ _ e))
 
-together-from : {Q : Type 0} (a b : Option ℕ) (w : ℕ) → together a b ≡ some w → ((u v : ℕ) → a ≡ some u → b ≡ some v → w ≡ u + v → Q) → Q
-together-from none b w e next = absurd (none-ne-some w e)
-together-from (some u) none w e next = absurd (none-ne-some w e)
-together-from (some u) (some v) w e next = next u v refl refl (sym (some-injective _ _ e))
+together-from : {Q : Type 0} (a b : Option ℕ) (w : ℕ) → together a b ≡ Some w → ((u v : ℕ) → a ≡ Some u → b ≡ Some v → w ≡ u + v → Q) → Q
+together-from None b w e next = absurd (none-some w e)
+together-from (Some u) None w e next = absurd (none-some w e)
+together-from (Some u) (Some v) w e next = next u v refl refl (sym (same_Some _ _ e))
 
-some_one : (w : ℕ) → some 1 ≡ some w → w ≡ 1
-some_one w e = sym (some-injective _ _ e)
+some_one : (w : ℕ) → Some 1 ≡ Some w → w ≡ 1
+some_one w e = sym (same_Some _ _ e)
 
-wide-only : (m w : ℕ) → elim (eqb m 256) as (λ _. Option ℕ) [ true ↦ some 1 | false ↦ none ] ≡ some w → (m ≡ 256) × (w ≡ 1)
+wide-only : (m w : ℕ) → elim (eqb m 256) as (λ _. Option ℕ) [ true ↦ Some 1 | false ↦ None ] ≡ Some w → (m ≡ 256) × (w ≡ 1)
 wide-only m w e = go (eqb m 256) refl e
   where
-    go : (b : Bool) → eqb m 256 ≡ b → elim b as (λ _. Option ℕ) [ true ↦ some 1 | false ↦ none ] ≡ some w → (m ≡ 256) × (w ≡ 1)
+    go : (b : Bool) → eqb m 256 ≡ b → elim b as (λ _. Option ℕ) [ true ↦ Some 1 | false ↦ None ] ≡ Some w → (m ≡ 256) × (w ≡ 1)
     go true h e = (eqb-true m 256 h, some_one w e)
-    go false h e = absurd (none-ne-some w e)
+    go false h e = absurd (none-some w e)
 
-elementary_in : (e : Elementary) (w : ℕ) → elementary_weight e ≡ some w → (w ≡ 1) × In (elementary e) the_four
+elementary_in : (e : Elementary) (w : ℕ) → elementary_weight e ≡ Some w → (w ≡ 1) × In (elementary e) the_four
 unfolding elementary_weight
-elementary_in (int m) w h = absurd (none-ne-some w h)
+elementary_in (int m) w h = absurd (none-some w h)
 elementary_in (uint (bits m)) w h = let (i, j) = wide-only m w h in (j, inr (inr (inl (rw i))))
-elementary_in (fixed_bytes m) w h = absurd (none-ne-some w h)
+elementary_in (fixed_bytes m) w h = absurd (none-some w h)
 elementary_in address w h = (some_one w h, inl refl)
 elementary_in bool w h = (some_one w h, inr (inl refl))
-elementary_in function w h = absurd (none-ne-some w h)
-elementary_in bytes w h = absurd (none-ne-some w h)
+elementary_in function w h = absurd (none-some w h)
+elementary_in bytes w h = absurd (none-some w h)
 elementary_in string w h = (some_one w h, inr (inr (inr (inl refl))))
 
-weight_positive : (k : Kind) (w : ℕ) → weight k ≡ some w → 1 ≤ w
+weight_positive : (k : Kind) (w : ℕ) → weight k ≡ Some w → 1 ≤ w
 unfolding weight
 weight_positive (elementary e) w h = omega (arith, (elementary_in e w h).0)
 weight_positive (tuple ks) w h = heavier_from (weights ks) w h (λ v _ e. omega arith)
-weight_positive (array k (sized n)) w h = absurd (none-ne-some w h)
+weight_positive (array k (sized n)) w h = absurd (none-some w h)
 weight_positive (array k unsized) w h = heavier_from (weight k) w h (λ v _ e. omega arith)
 
 abbrev KindIn : Kind → Type 0
-KindIn k = (w f : ℕ) → weight k ≡ some w → 2 * w ≤ f → In k (kinds_in f w)
+KindIn k = (w f : ℕ) → weight k ≡ Some w → 2 * w ≤ f → In k (kinds_in f w)
 
 abbrev ListIn : Kinds → Type 0
-ListIn ks = (w f : ℕ) → weights ks ≡ some w → 2 * w + 1 ≤ f → In ks (lists_in f w)
+ListIn ks = (w f : ℕ) → weights ks ≡ Some w → 2 * w + 1 ≤ f → In ks (lists_in f w)
 
 elementary-case : (e : Elementary) → KindIn (elementary e)
 unfolding weight kinds_in lists_in
@@ -289,7 +289,7 @@ array-case k ih (suc w) zero h l = absurd (omega arith)
 array-case k ih (suc w) (suc f) h l =
     heavier_from (weight k) (suc w) h (λ v g e.
     let same : v ≡ w = omega arith in
-    let there : In (array k unsized) (arrays_in f w) = in_map (λ j. array j unsized) k (kinds_in f w) (ih w f (g ∙ ap some same) (omega arith)) in
+    let there : In (array k unsized) (arrays_in f w) = in_map (λ j. array j unsized) k (kinds_in f w) (ih w f (g ∙ ap Some same) (omega arith)) in
     in_right (array k unsized) (fours w) _ (in_left (array k unsized) (arrays_in f w) (tuples_in f w) there))
 
 tuple-case : (ks : Kinds) → ListIn ks → KindIn (tuple ks)
@@ -299,14 +299,14 @@ tuple-case ks ih (suc w) zero h l = absurd (omega arith)
 tuple-case ks ih (suc w) (suc f) h l =
     heavier_from (weights ks) (suc w) h (λ v g e.
     let same : v ≡ w = omega arith in
-    let there : In (tuple ks) (tuples_in f w) = in_map tuple ks (lists_in f w) (ih w f (g ∙ ap some same) (omega arith)) in
+    let there : In (tuple ks) (tuples_in f w) = in_map tuple ks (lists_in f w) (ih w f (g ∙ ap Some same) (omega arith)) in
     in_right (tuple ks) (fours w) _ (in_right (tuple ks) (arrays_in f w) (tuples_in f w) there))
 
 none-case : ListIn no_kind
 unfolding weight lists_in kinds_in
 none-case w zero h l = absurd (omega arith)
 none-case zero (suc f) h l = inl refl
-none-case (suc w) (suc f) h l = absurd (let z : 0 ≡ suc w = some-injective _ _ h in omega arith)
+none-case (suc w) (suc f) h l = absurd (let z : 0 ≡ suc w = same_Some _ _ h in omega arith)
 
 more-case : (k : Kind) (ks : Kinds) → KindIn k → ListIn ks → ListIn (more_kinds k ks)
 unfolding weight lists_in kinds_in
@@ -326,7 +326,7 @@ mutual
   weighs_in : (k : Kind) → KindIn k
   weighs_in (elementary e) = elementary-case e
   weighs_in (tuple ks) = tuple-case ks (weigh_in ks)
-  weighs_in (array k (sized n)) = λ w f h l. absurd (none-ne-some w h)
+  weighs_in (array k (sized n)) = λ w f h l. absurd (none-some w h)
   weighs_in (array k unsized) = array-case k (weighs_in k)
 
   weigh_in : (ks : Kinds) → ListIn ks
@@ -334,13 +334,13 @@ mutual
   weigh_in (more_kinds k ks) = more-case k ks (weighs_in k) (weigh_in ks)
 
 -- "Each kind of the weight appears, none twice": a kind has an index exactly if it weighs w
-pub sampled-exactly : (w : ℕ) (k : Kind) → ((i : ℕ) × (get_elem? (sampled w) i ≡ some k)) ↔ (weight k ≡ some w)
+pub sampled-exactly : (w : ℕ) (k : Kind) → ((i : ℕ) × (slice_get (sampled w) i ≡ Some k)) ↔ (weight k ≡ Some w)
 unfolding sampled
 sampled-exactly w k =
     let (to, from) = in_by_index k (kinds_in (2 * w) w) in
     (λ i. in_weighs (2 * w) k w (to i), λ h. from (weighs_in k w (2 * w) h (omega arith)))
 
 -- and one only
-pub sampled-once : (w i j : ℕ) (k : Kind) → get_elem? (sampled w) i ≡ some k → get_elem? (sampled w) j ≡ some k → i ≡ j
+pub sampled-once : (w i j : ℕ) (k : Kind) → slice_get (sampled w) i ≡ Some k → slice_get (sampled w) j ≡ Some k → i ≡ j
 unfolding sampled
 sampled-once w = once_index (kinds_in (2 * w) w) (once-kinds (2 * w) w)

@@ -1,92 +1,61 @@
 -- How the call ends: no such sample, no room for it, or written.
 -- Assumes nothing.
-use mathlib.Core.Path.{◌≡◌, sym, ◌∙◌, ap}
-use mathlib.Core.List.{List}
-use mathlib.Core.Option.{some}
-use Prim.Native.Nat.{ℕ, ◌+◌, ◌≤◌, ◌<◌}
-use native.Mathlib.Omega.{arith}
-use lib.ListN.{length, take}
+use mathlib.Core.Path.{◌≡◌, refl, sym, ◌∙◌, ap}
+use mathlib.Core.List.{List, [], ◌++◌}
+use Rattle.std.specs.Prelude.{Ok, Err, IsErrAnd}
+use Prim.Native.Nat.{ℕ, ◌≤◌, ◌<◌}
+use lib.ListN.{length}
 use Rattle.kinds.specs.Kind.{kind_text}
+use Rattle.model.specs.declared.Refusal.{Refusal}
+use Rattle.model.specs.declared.Refused.{Refused}
 use Rattle.model.specs.declared.Refusal.TheVariants.{NoSuchSample, NoRoom}
-use Rattle.model.specs.declared.Answer.{Answer}
-use Rattle.model.specs.declared.Answer.TheVariants.{Accepted, Refused}
-use Rattle.model.specs.Record.{on_option}
-use Rattle.model.specs.Answer.{said, outcome, after}
+use Rattle.model.specs.Answer.{writes, said, outcome, after, Answer, refusing, at_start}
 use Rattle.layout.specs.Buffer.{put}
 use Rattle.layout.specs.Answers.{Ends}
 use Rattle.layout.proofs.Answers.{ends-refused, ends-full, ends-written}
-use Rattle.layout.proofs.Writes.{wrote-put}
-use Rattle.abi.specs.Writes.{Wrote}
 use Rattle.sampler.specs.Sampler.{sample_output}
-use Rattle.sampler.specs.Places.{count_of, kind_at, KindRoom}
-use Rattle.sampler.proofs.Counts.{There, there, not_there}
+use Rattle.sampler.specs.Places.{count_of, kind_at}
+use Rattle.sampler.proofs.Counts.{counted, kind_there, kind_output, not_there}
 use Rattle.sampler.proofs.Small.{is-short}
 
--- no such sample
-module _ (w i n : ℕ) (count : n ≡ count_of w) (h : n ≤ i) (b : List ℕ) (r : Answer) (e : r ≡ Refused NoSuchSample 0) where
-  none-ends : Ends (sample_output w i) b b r
-  none-ends = ends-refused (sample_output w i) b r NoSuchSample 0 e (not_there w i n count h)
+module _ (w i : ℕ) (b : List ℕ) (why : Refusal) (m : (why ≡ NoSuchSample) × (count_of w ≤ i)) where
+  none_ends : Ends (sample_output w i) b b (refusing NoSuchSample 0)
+  none_ends = ends-refused (sample_output w i) b (refusing NoSuchSample 0) NoSuchSample 0 refl (not_there w i m.1)
 
-  pub none_said : said r ≡ outcome (length b) (sample_output w i)
-  none_said = none-ends.0
+  pub none_says : (r : Answer) → IsErrAnd r (λ f. f ≡ at_start why) → said r ≡ outcome (length b) (sample_output w i)
+  none_says (Ok n) e = absurd e
+  none_says (Err f) e = rw (e, m.0) none_ends.0
 
   pub none_left : b ≡ after b (sample_output w i)
-  none_left = none-ends.1
+  none_left = none_ends.1
 
--- one
 module _ (w i : ℕ) (h : i < count_of w) where
-  abbrev found : There w i
-  found = there w i h
+  pub text_short : length (kind_text (kind_at w i)) ≤ 25
+  text_short = is-short w i (kind_at w i) (counted w i h).high (kind_there w i h)
 
-  abbrev text : List ℕ
-  text = kind_text found.kind
+  -- written into an empty text
+  module _ (b s t : List ℕ) (start : s ≡ []) (x : t ≡ s ++ kind_text (kind_at w i)) where
+    is_text : t ≡ kind_text (kind_at w i)
+    is_text = rw start at x
 
-  text_at : kind_at w i ≡ some text
-  text_at = ap (on_option kind_text) found.at
+    module _ (l : length b < length t) (r : Refused) (e : r ≡ at_start NoRoom) where
+      full_ends : Ends (sample_output w i) b b (Err r)
+      full_ends = ends-full (sample_output w i) b (Err r) t (ap Err e) (kind_output w i h ∙ ap writes (sym is_text)) l
 
-  short : length text ≤ 25
-  short = is-short w i found.kind found.high found.at
+      pub full_says : said (Err r) ≡ outcome (length b) (sample_output w i)
+      full_says = full_ends.0
 
-  -- written into an array that is long enough
-  module _ (s : List ℕ) (size : length s ≡ 25) where
-    pub sample_asks : KindRoom w i 0 s
-    sample_asks = record { at = record { text = text; same = text_at; room = omega (arith, short) }; low = found.low; high = found.high }
+      pub full_left : b ≡ after b (sample_output w i)
+      full_left = full_ends.1
 
-    module _ (s₁ : List ℕ) (m : ℕ) (x : Wrote (kind_at w i) 0 s s₁ m) where
-      length-is : m ≡ length text
-      length-is = omega (arith, x.end text text_at)
+    module _ (l : length t ≤ length b) where
+      written_ends : Ends (sample_output w i) b (put 0 t b) (Ok (length t))
+      written_ends = ends-written (sample_output w i) b (Ok (length t)) t (put 0 t b) refl (kind_output w i h ∙ ap writes (sym is_text)) l refl
 
-      pub sample_long : m ≤ 25
-      sample_long = omega (arith, length-is, short)
+      pub written_says : (n : ℕ) → n ≡ length t → said (Ok n) ≡ outcome (length b) (sample_output w i)
+      written_says n e = rw e written_ends.0
 
-      text-is : take m s₁ ≡ text
-      text-is =
-          let e : m ≡ 0 + length text = omega (arith, length-is) in
-          ap (λ l. take l s₁) e ∙ (wrote-put 0 text s s₁ (omega (arith, short)) (x.all text text_at)).front
+      pub written_left : (b₁ : List ℕ) → b₁ ≡ put 0 t b → b₁ ≡ after b (sample_output w i)
+      written_left b₁ e = e ∙ written_ends.1
 
-      pub sample_taken : length (take m s₁) ≡ m
-      sample_taken = ap length text-is ∙ sym length-is
-
-      module _ (b : List ℕ) (l : length b < m) (r : Answer) (e : r ≡ Refused NoRoom 0) where
-        full-ends : Ends (sample_output w i) b b r
-        full-ends = ends-full (sample_output w i) b r text e found.output (omega (arith, length-is))
-
-        pub full-said : said r ≡ outcome (length b) (sample_output w i)
-        full-said = full-ends.0
-
-        pub full-left : b ≡ after b (sample_output w i)
-        full-left = full-ends.1
-
-      module _ (b b₁ : List ℕ) (l : m ≤ length b) (e : b₁ ≡ put 0 (take m s₁) b) where
-        written-ends : Ends (sample_output w i) b b₁ (Accepted m)
-        written-ends =
-            ends-written (sample_output w i) b (Accepted m) text b₁ (ap Accepted length-is) found.output (omega (arith, length-is))
-            (e ∙ ap (λ u. put 0 u b) text-is)
-
-        pub written-said : said (Accepted m) ≡ outcome (length b) (sample_output w i)
-        written-said = written-ends.0
-
-        pub written-left : b₁ ≡ after b (sample_output w i)
-        written-left = written-ends.1
-
-pub ruleset sampling = (none_said, none_left, sample_asks, full-said, full-left, written-said, written-left)
+pub ruleset sampling = (none_says, none_left, text_short, full_says, full_left, written_says, written_left)

@@ -3,11 +3,11 @@
 use mathlib.Core.Path.{◌≡◌, refl, sym, ◌∙◌, ap}
 use mathlib.Core.Bool.{Bool, true, ◌&&◌}
 use mathlib.Core.List.{List}
-use mathlib.Core.Option.{some}
+use Rattle.std.specs.Prelude.{Some, slice_get}
 use Prim.Native.Nat.{ℕ, zero, suc, ◌≤◌}
 use native.Mathlib.Omega.{arith}
 use lib.Dec.{leb}
-use lib.ListN.{length, get_elem?}
+use lib.ListN.{length}
 use borrow.Author.Tests.{leb-true}
 use Rattle.kinds.specs.Bytes.{all}
 use Rattle.kinds.specs.Decimal.{decimal, digits}
@@ -40,7 +40,7 @@ all_small (suc (suc (suc zero))) h = refl
 all_small (suc (suc (suc (suc zero)))) h = refl
 all_small (suc (suc (suc (suc (suc w))))) h = absurd (omega arith)
 
-module _ (w i : ℕ) (k : Kind) (high : w ≤ 4) (at : get_elem? (sampled w) i ≡ some k) where
+module _ (w i : ℕ) (k : Kind) (high : w ≤ 4) (at : slice_get (sampled w) i ≡ Some k) where
   small : is_small k ≡ true
   small = all-at is_small (sampled w) i k (all_small w high) at
 
@@ -67,7 +67,7 @@ module _ (w i : ℕ) (k : Kind) (high : w ≤ 4) (at : get_elem? (sampled w) i �
       let f : Field = field_of k in
       let v : well_formed_field f ≡ true = kind-well-formed (kind_text k) f 0 sample_reads in
       let bytes = encode-field-bytes f v in
-      let says : decode_lone (encode_field 4 f) ≡ some f = (decode-lone-exactly (encode_field 4 f) f bytes).1 (v, refl) in
+      let says : decode_lone (encode_field 4 f) ≡ Some f = (decode-lone-exactly (encode_field 4 f) f bytes).1 (v, refl) in
       let same : field_text f ≡ kind_text k = ap kind_text (kind-field k) in
       let (c, out, s) = kind-back (encode_field 4 f) f bytes says (omega (arith, is-short, ap length same)) in
       (c, ap kind_output (sym same) ∙ out, s)

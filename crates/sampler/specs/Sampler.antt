@@ -1,8 +1,6 @@
 -- Order 14: every small kind by its weight and its index, and what the sampler writes.
 -- Assumes nothing.
-use Rattle.std.specs.Prelude.{true, false, List, [], ◌∷◌, ◌++◌, map, ℕ, zero, suc, ◌+◌, ◌*◌, eqb}
-use Rattle.std.proofs.Math.Option.{Option, none, some}
-use Rattle.std.proofs.Math.ListN.{get_elem?}
+use Rattle.std.specs.Prelude.{true, false, List, [], ◌∷◌, ◌++◌, map, ℕ, zero, suc, ◌+◌, ◌*◌, eqb, Option, None, Some, slice_get}
 use Rattle.kinds.specs.Bytes.{between}
 use Rattle.kinds.specs.Kind.{bits, Elementary, int, uint, fixed_bytes, address, bool, function, bytes, string, sized, unsized, Kind, elementary, tuple, array, Kinds, no_kind, more_kinds, kind_text}
 use Rattle.model.specs.declared.Refusal.TheVariants.{NoSuchSample}
@@ -13,31 +11,31 @@ use Rattle.model.specs.Answer.{Output, writes, refuses}
 
 -- "`address`, `bool`, `uint256` and `string` weigh 1"
 unfoldable pub elementary_weight : Elementary → Option ℕ
-elementary_weight (int m) = none
-elementary_weight (uint (bits m)) = elim (eqb m 256) [ true ↦ some 1 | false ↦ none ]
-elementary_weight (fixed_bytes m) = none
-elementary_weight address = some 1
-elementary_weight bool = some 1
-elementary_weight function = none
-elementary_weight bytes = none
-elementary_weight string = some 1
+elementary_weight (int m) = None
+elementary_weight (uint (bits m)) = elim (eqb m 256) [ true ↦ Some 1 | false ↦ None ]
+elementary_weight (fixed_bytes m) = None
+elementary_weight address = Some 1
+elementary_weight bool = Some 1
+elementary_weight function = None
+elementary_weight bytes = None
+elementary_weight string = Some 1
 
 -- both weights together
 abbrev pub together : Option ℕ → Option ℕ → Option ℕ
-together none v = none
-together (some w) none = none
-together (some w) (some v) = some (w + v)
+together None v = None
+together (Some w) None = None
+together (Some w) (Some v) = Some (w + v)
 
 -- "`[]` adds 1; a tuple weighs 1 plus its components"
 unfoldable mutual
   pub weight : Kind → Option ℕ
   weight (elementary e) = elementary_weight e
   weight (tuple ks) = on_option suc (weights ks)
-  weight (array k (sized n)) = none
+  weight (array k (sized n)) = None
   weight (array k unsized) = on_option suc (weight k)
 
   pub weights : Kinds → Option ℕ
-  weights no_kind = some 0
+  weights no_kind = Some 0
   weights (more_kinds k ks) = together (weight k) (weights ks)
 
 -- Order.
@@ -86,9 +84,9 @@ listed w = lists_in (2 * w + 1) w
 
 -- "write that kind's text", if there is one
 abbrev pub or_no_sample : Option Kind → Output
-or_no_sample none = refuses NoSuchSample 0
-or_no_sample (some k) = writes (kind_text k)
+or_no_sample None = refuses NoSuchSample 0
+or_no_sample (Some k) = writes (kind_text k)
 
 -- "Given a weight from 1 to 4 and an index from 0, write that kind's text." "Refused: 29 weight or index outside these"
 unfoldable pub sample_output : ℕ → ℕ → Output
-sample_output w i = elim (between 1 4 w) [ true ↦ or_no_sample (get_elem? (sampled w) i) | false ↦ refuses NoSuchSample 0 ]
+sample_output w i = elim (between 1 4 w) [ true ↦ or_no_sample (slice_get (sampled w) i) | false ↦ refuses NoSuchSample 0 ]

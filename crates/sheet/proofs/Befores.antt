@@ -1,5 +1,6 @@
 -- Lines and records compared: one line, a line whose fingerprint is known, and all lines before.
 -- Assumes nothing.
+use Rattle.std.specs.Prelude.{Ok}
 use mathlib.Core.Path.{◌≡◌, refl, sym, ◌∙◌, ap}
 use mathlib.Core.Bool.{Bool, true, false, ◌||◌, false≢true}
 use mathlib.Core.List.{List}
@@ -12,14 +13,12 @@ use lib.Seq.{take_at}
 use borrow.Author.Tests.{le-ltb, leb-true, ne_eqb}
 use Rattle.kinds.proofs.Logic.{right}
 use Rattle.model.specs.declared.Refusal.{Refusal}
-use Rattle.model.specs.declared.Answer.{Answer}
-use Rattle.model.specs.declared.Answer.TheVariants.{Accepted, Refused}
 use Rattle.model.specs.declared.Call.TheVariants as call
 use Rattle.model.specs.Tree.{Declaration}
 use Rattle.model.specs.Parser.{got}
 use Rattle.model.specs.Reading.{parse}
 use Rattle.model.specs.Record.{encode, is_declaration, longest_record, well_formed}
-use Rattle.model.specs.Answer.{accepted, refused, number, writes, said, outcome, after}
+use Rattle.model.specs.Answer.{accepted, refused, number, writes, said, outcome, after, Answer, refusing}
 use Rattle.model.specs.Calls.{read_output}
 use Rattle.model.specs.Sheet.{repeats, has}
 use Rattle.model.proofs.Sound.{read-well-formed}
@@ -37,13 +36,13 @@ encode-short d g = leb-true (length (encode 4 d)) longest_record (right (is_decl
 
 -- a line that was read into a lent array
 module _ (l : List ℕ) (room : ℕ) (a : Answer) (says : said a ≡ outcome room (read_output call.General l)) where
-  pub read_fits : (n : ℕ) → a ≡ Accepted n → n ≤ room
+  pub read_fits : (n : ℕ) → a ≡ Ok n → n ≤ room
   unfolding said
   read_fits n e =
       let (u, o, x, y) = accepted-is (read_output call.General l) room n (sym (ap said e) ∙ says) in
       omega (arith, x, y)
 
-  pub read-never : (w : Refusal) (x : ℕ) → a ≡ Refused w x → (d : Declaration) (m : ℕ) → parse call.General l ≡ got d m → 40960 ≤ room → ⊥
+  pub read-never : (w : Refusal) (x : ℕ) → a ≡ refusing w x → (d : Declaration) (m : ℕ) → parse call.General l ≡ got d m → 40960 ≤ room → ⊥
   unfolding said outcome
   read-never w x e d m f g =
       let k : length (encode 4 d) ≤ room = omega (arith, encode-short d (read-well-formed call.General l d m f)) in
@@ -52,7 +51,7 @@ module _ (l : List ℕ) (room : ℕ) (a : Answer) (says : said a ≡ outcome roo
       let i : ◌≡◌ {A = ℕ} 0 1 = cc in omega arith
 
 module _ (l b b₁ : List ℕ) (a : Answer) (says : said a ≡ outcome (length b) (read_output call.General l)) where
-  pub read_record : b₁ ≡ after b (read_output call.General l) → (n : ℕ) → a ≡ Accepted n → (d : Declaration) (m : ℕ) → parse call.General l ≡ got d m → RecordOf (take n b₁) d
+  pub read_record : b₁ ≡ after b (read_output call.General l) → (n : ℕ) → a ≡ Ok n → (d : Declaration) (m : ℕ) → parse call.General l ≡ got d m → RecordOf (take n b₁) d
   unfolding said
   read_record leaves n e d m f =
       let (u, o, x, y) = accepted-is (read_output call.General l) (length b) n (sym (ap said e) ∙ says) in
@@ -68,7 +67,7 @@ line_reads s at e h d r = ap (λ n. parse call.General (take n (drop at s))) (sy
 
 -- the line at a place
 module _ (s : List ℕ) (at e : ℕ) (t b b₁ : List ℕ) (ends : LineEnds s at e) (a : Answer) (says : said a ≡ outcome (length b) (read_output call.General (take (e - at) (drop at s)))) where
-  pub two-asked : b₁ ≡ after b (read_output call.General (take (e - at) (drop at s))) → (n : ℕ) → a ≡ Accepted n → AskedAt s at t → Two (take n b₁) t
+  pub two-asked : b₁ ≡ after b (read_output call.General (take (e - at) (drop at s))) → (n : ℕ) → a ≡ Ok n → AskedAt s at t → Two (take n b₁) t
   two-asked leaves n f p = record {
     declaration = p.declaration;
     one = read_record _ b b₁ a says leaves n f p.declaration p.reads.place (line_reads s at e ends p.declaration p.reads);
@@ -76,12 +75,12 @@ module _ (s : List ℕ) (at e : ℕ) (t b b₁ : List ℕ) (ends : LineEnds s at
     other = p.other;
   }
 
-  pub two-told : b₁ ≡ after b (read_output call.General (take (e - at) (drop at s))) → (n : ℕ) → a ≡ Accepted n → (r : Bool) → Repeats (take n b₁) t r → LineRepeats s at t r
+  pub two-told : b₁ ≡ after b (read_output call.General (take (e - at) (drop at s))) → (n : ℕ) → a ≡ Ok n → (r : Bool) → Repeats (take n b₁) t r → LineRepeats s at t r
   unfolding two-asked
   two-told leaves n f r g p = g (two-asked leaves n f p)
 
 module _ (s : List ℕ) (at e : ℕ) (t : List ℕ) (room : ℕ) (ends : LineEnds s at e) (a : Answer) (says : said a ≡ outcome room (read_output call.General (take (e - at) (drop at s)))) where
-  pub two-never : (w : Refusal) (x : ℕ) → a ≡ Refused w x → 40960 ≤ room → LineRepeats s at t false
+  pub two-never : (w : Refusal) (x : ℕ) → a ≡ refusing w x → 40960 ≤ room → LineRepeats s at t false
   two-never w x f g p = absurd (read-never _ room a says w x f p.declaration p.reads.place (line_reads s at e ends p.declaration p.reads) g)
 
 -- fingerprints that differ

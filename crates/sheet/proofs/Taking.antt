@@ -1,5 +1,6 @@
 -- One line more, and all lines.
 -- Assumes nothing.
+use Rattle.std.specs.Prelude.{Ok}
 use mathlib.Core.Path.{◌≡◌, refl, sym, ◌∙◌, ap}
 use mathlib.Core.Bool.{true, false}
 use mathlib.Core.List.{List, [], ◌∷◌, ◌++◌, append_assoc}
@@ -9,14 +10,12 @@ use lib.ListN.{length, take, drop, length-append, length-drop}
 use lib.Seq.{length-take-le}
 use Rattle.model.specs.declared.Refusal.{Refusal}
 use Rattle.model.specs.declared.Refusal.TheVariants.{TooDeep}
-use Rattle.model.specs.declared.Answer.{Answer}
-use Rattle.model.specs.declared.Answer.TheVariants.{Accepted, Refused}
 use Rattle.model.specs.declared.Call.TheVariants as call
 use Rattle.model.specs.Tree.{Declaration}
 use Rattle.model.specs.Parser.{Ans, got, bad, deep}
 use Rattle.model.specs.Reading.{parse}
 use Rattle.model.specs.Record.{encode}
-use Rattle.model.specs.Answer.{refused, number, writes, said, outcome, after}
+use Rattle.model.specs.Answer.{refused, number, writes, said, outcome, after, Answer, refusing}
 use Rattle.model.specs.Calls.{written, read_output}
 use Rattle.model.specs.Sheet.{is_blank_line, Placed, Lines, says, fails, onto, on_line, read_lines, declarations, encode_all}
 use Rattle.model.proofs.Sound.{record_small}
@@ -36,7 +35,7 @@ pub record LineGot (l : List ℕ) : Type 0 where
   pub reads : parse call.General l ≡ got declaration place
 
 module _ (l : List ℕ) (room : ℕ) (a : Answer) (says-it : said a ≡ outcome room (read_output call.General l)) where
-  pub line-got : (n : ℕ) → a ≡ Accepted n → LineGot l
+  pub line-got : (n : ℕ) → a ≡ Ok n → LineGot l
   unfolding said read_output written
   line-got n e =
       let (u, o, x, y) = accepted-is (read_output call.General l) room n (sym (ap said e) ∙ says-it) in
@@ -47,7 +46,7 @@ module _ (l : List ℕ) (room : ℕ) (a : Answer) (says-it : said a ≡ outcome 
       go u (bad w p) q f = absurd (let z : ◌≡◌ {A = ℕ} 0 1 = cc in omega arith)
       go u (deep p) q f = absurd (let z : ◌≡◌ {A = ℕ} 0 1 = cc in omega arith)
 
-  pub line-bad : (s : List ℕ) (at e line : ℕ) → l ≡ take (e - at) (drop at s) → is_blank_line l ≡ false → (w : Refusal) (x : ℕ) → a ≡ Refused w x → 40960 ≤ room → LineFails s at e line w x
+  pub line-bad : (s : List ℕ) (at e line : ℕ) → l ≡ take (e - at) (drop at s) → is_blank_line l ≡ false → (w : Refusal) (x : ℕ) → a ≡ refusing w x → 40960 ≤ room → LineFails s at e line w x
   unfolding said read_output written outcome read_lines
   line-bad s at e line z b w x f g = go (parse call.General l) refl (sym (ap said f) ∙ says-it)
     where
@@ -87,12 +86,12 @@ module _ (s : List ℕ) (at e line : ℕ) (v : Seen) (t b prints places : List �
 
   -- a refused line
   pub take-bad : (t₁ : List ℕ) (k : ℕ) → Skipped (take (e - at) (drop at s)) 0 k → (k ≡ length (take (e - at) (drop at s)) → ⊥) → (a : Answer) → said a ≡ outcome (length t) (read_output call.General (take (e - at) (drop at s)))
-      → (w : Refusal) (x : ℕ) → a ≡ Refused w x → LineTaken s at e line v t b prints places t₁ b prints places (taken.Refused w x)
+      → (w : Refusal) (x : ℕ) → a ≡ refusing w x → LineTaken s at e line v t b prints places t₁ b prints places (taken.Refused w x)
   unfolding TakenIs
   take-bad t₁ k f z a g w x h q = line-bad (take (e - at) (drop at s)) (length t) a g s at e line refl (blank-not (take (e - at) (drop at s)) k f z) w x h (omega (arith, q.room))
 
   -- a line that is read
-  module _ (t₁ : List ℕ) (a : Answer) (g : said a ≡ outcome (length t) (read_output call.General (take (e - at) (drop at s)))) (leaves : t₁ ≡ after t (read_output call.General (take (e - at) (drop at s)))) (n : ℕ) (h : a ≡ Accepted n) where
+  module _ (t₁ : List ℕ) (a : Answer) (g : said a ≡ outcome (length t) (read_output call.General (take (e - at) (drop at s)))) (leaves : t₁ ≡ after t (read_output call.General (take (e - at) (drop at s)))) (n : ℕ) (h : a ≡ Ok n) where
     line-is : LineGot (take (e - at) (drop at s))
     line-is = line-got (take (e - at) (drop at s)) (length t) a g n h
 

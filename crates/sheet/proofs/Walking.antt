@@ -1,5 +1,6 @@
 -- Lines one behind the other, and what is written of one.
 -- Assumes nothing.
+use Rattle.std.specs.Prelude.{Ok}
 use mathlib.Core.Path.{◌≡◌, refl, sym, ◌∙◌, ap, ap₂}
 use mathlib.Core.Bool.{Bool, true, false, ◌&&◌, ◌||◌, not, false≢true}
 use mathlib.Core.List.{List, [], ◌∷◌, ◌++◌, append-nil}
@@ -10,15 +11,13 @@ use lib.ListN.{length, take, drop, get_or, length-append, length-drop, drop_of_l
 use lib.Seq.{length-take-le, drop-drop, take-length}
 use borrow.Author.Tests.{le-ltb, eq-eqb, ne_eqb}
 use Rattle.model.specs.declared.Refusal.{Refusal}
-use Rattle.model.specs.declared.Answer.{Answer}
-use Rattle.model.specs.declared.Answer.TheVariants.{Accepted, Refused}
 use Rattle.model.specs.declared.Call.TheVariants as call
 use Rattle.model.specs.Text.{span_from, one, skip}
 use Rattle.model.specs.Tree.{Declaration}
 use Rattle.model.specs.Parser.{got}
 use Rattle.model.specs.Reading.{parse}
 use Rattle.model.specs.Record.{encode}
-use Rattle.model.specs.Answer.{accepted, refused, number, writes, said, outcome, after}
+use Rattle.model.specs.Answer.{accepted, refused, number, writes, said, outcome, after, Answer, refusing}
 use Rattle.model.specs.Calls.{written, read_output}
 use Rattle.model.specs.Sheet.{line_feed, lines_of, is_blank_line}
 use Rattle.kinds.specs.Bytes.{all}
@@ -129,7 +128,7 @@ pub read_is : (l : List ℕ) (d : Declaration) (m : ℕ) → parse call.General 
 unfolding read_output written
 read_is l d m e = rw (read_output, e) refl
 
-pub line-fits : (l b : List ℕ) (p : ℕ) (a : Answer) (n : ℕ) → p ≤ length b → said a ≡ outcome (length (take (length b - p) (drop p b))) (read_output call.General l) → a ≡ Accepted n → p + n ≤ length b
+pub line-fits : (l b : List ℕ) (p : ℕ) (a : Answer) (n : ℕ) → p ≤ length b → said a ≡ outcome (length (take (length b - p) (drop p b))) (read_output call.General l) → a ≡ Ok n → p + n ≤ length b
 unfolding said
 line-fits l b p a n h says e =
     let (u, _, x, y) = accepted-is (read_output call.General l) (length (take (length b - p) (drop p b))) n (sym (ap said e) ∙ says) in
@@ -156,7 +155,7 @@ module _ (l b part : List ℕ) (p : ℕ) (h : p ≤ length b) (q : ℕ) (k : Ski
   back_long : length back ≡ length b
   back_long = ap length back_is ∙ length-append (take p b) part ∙ omega (arith, length-take-le p b h, part-long)
 
-  pub line_read : (n : ℕ) → a ≡ Accepted n → LineWritten l b back p (p + n)
+  pub line_read : (n : ℕ) → a ≡ Ok n → LineWritten l b back p (p + n)
   unfolding said read_output written after put
   line_read n e =
       let (u, o, x, y) = accepted-is (read_output call.General l) (length (take (length b - p) (drop p b))) n (sym (ap said e) ∙ says) in
@@ -172,13 +171,13 @@ module _ (l b part : List ℕ) (p : ℕ) (h : p ≤ length b) (q : ℕ) (k : Ski
       }
 
   -- a refusal leaves all as it was
-  refused-not : (w : Refusal) (x : ℕ) (d : Declaration) (m : ℕ) → a ≡ Refused w x → parse call.General l ≡ got d m → p + length (encode 4 d) ≤ length b → ⊥
+  refused-not : (w : Refusal) (x : ℕ) (d : Declaration) (m : ℕ) → a ≡ refusing w x → parse call.General l ≡ got d m → p + length (encode 4 d) ≤ length b → ⊥
   unfolding said read_output written outcome
   refused-not w x d m e f g =
       let y : refused (number w) x ≡ accepted (length (encode 4 d)) = sym (ap said e) ∙ says ∙ rw (read_output, f, outcome, le-ltb (length (take (length b - p) (drop p b))) (length (encode 4 d)) (rw room-is (omega arith))) refl in
       let i : ◌≡◌ {A = ℕ} 0 1 = cc in omega arith
 
-  pub line_refused : (w : Refusal) (x : ℕ) → a ≡ Refused w x → LineWritten l b back p p
+  pub line_refused : (w : Refusal) (x : ℕ) → a ≡ refusing w x → LineWritten l b back p p
   line_refused w x e = record {
     size = back_long;
     inside = omega (arith, back_long);

@@ -8,7 +8,7 @@ ghost use Rattle.repeat.specs.Prints.{any};
 ghost use Rattle.model.specs.Sheet.{line_feed, lines_of, read_lines, sheet_by, sheet_output};
 ghost use Rattle.sheet.specs.Lines.{SameLine, LineEnds, LineWritten, LinesFit, LinesWritten, NextLine, AskedAt, LineRepeats, AskedPrint, PrintRepeats, AskedBefore, HasBefore, RepeatNext, AskedCount, CountIs, AskedLine, LineTaken, SurveyIs, LinesRead, LinedEnds};
 
-use model::{Answer, Refusal};
+use model::{Answer, Call, Refusal, Refused};
 
 // "text over 65,536 bytes"
 const LONGEST_SHEET: usize = 65536;
@@ -108,10 +108,10 @@ fn line_repeats(text: &[u8], at: usize, record: &[u8]) -> bool
 {
     let mut other = [0u8; LONGEST_RECORD];
     let e = line_end(text, at);
-    let r = declaration::parse_declaration(&text[at..e], &mut other);
+    let r = declaration::read(Call::General, &text[at..e], &mut other);
     match r {
-        Answer::Accepted { length } => repeat::repeats(&other[..length], record),
-        Answer::Refused { refusal, position } => false,
+        Ok(length) => repeat::repeats(&other[..length], record),
+        Err(Refused { refusal, position }) => false,
     }
 }
 
@@ -232,9 +232,9 @@ fn take_line(
     if text::skip(l, 0) == l.len() {
         return Taken::More(s);
     }
-    let r = declaration::parse_declaration(l, record);
+    let r = declaration::read(Call::General, l, record);
     match r {
-        Answer::Accepted { length } => {
+        Ok(length) => {
             let u = count(
                 text,
                 at,
@@ -247,7 +247,7 @@ fn take_line(
             );
             Taken::More(u)
         }
-        Answer::Refused { refusal, position } => Taken::Refused { refusal, position },
+        Err(Refused { refusal, position }) => Taken::Refused { refusal, position },
     }
 }
 
@@ -332,10 +332,10 @@ fn write_line(l: &[u8], out: &mut [u8], p: usize) -> usize
         return p;
     }
     let part = &mut out[p..];
-    let r = declaration::parse_declaration(l, part);
+    let r = declaration::read(Call::General, l, part);
     match r {
-        Answer::Accepted { length } => p + length,
-        Answer::Refused { refusal, position } => p,
+        Ok(length) => p + length,
+        Err(Refused { refusal, position }) => p,
     }
 }
 
@@ -348,29 +348,29 @@ fn judge(text: &[u8], s: Seen, record: &mut [u8], line: &mut usize) -> Answer
     let repeated = s.repeated;
     if 0 < crowded {
         *line = crowded;
-        return Answer::Refused {
+        return Err(Refused {
             refusal: Refusal::TooManyDeclarations,
             position: 0,
-        };
+        });
     }
     if 0 < repeated {
         *line = repeated;
-        return Answer::Refused {
+        return Err(Refused {
             refusal: Refusal::Repeated,
             position: 0,
-        };
+        });
     }
     *line = 0;
     let length = HEAD + s.total;
     if record.len() < length {
-        return Answer::Refused {
+        return Err(Refused {
             refusal: Refusal::NoRoom,
             position: 0,
-        };
+        });
     }
     layout::header(record, 0, length, SHEET);
     write_lines(text, record, HEAD);
-    Answer::Accepted { length }
+    Ok(length)
 }
 
 // "A sheet text has one declaration a line, parted by line feeds, each read by the general call."
@@ -381,10 +381,10 @@ pub fn parse_sheet(text: &[u8], record: &mut [u8], line: &mut usize) -> Answer
 {
     if LONGEST_SHEET < text.len() {
         *line = 0;
-        return Answer::Refused {
+        return Err(Refused {
             refusal: Refusal::SheetTooLong,
             position: 0,
-        };
+        });
     }
     let r = survey(text);
     match r {
@@ -395,7 +395,7 @@ pub fn parse_sheet(text: &[u8], record: &mut [u8], line: &mut usize) -> Answer
             position,
         } => {
             *line = n;
-            Answer::Refused { refusal, position }
+            Err(Refused { refusal, position })
         }
     }
 }

@@ -1,74 +1,88 @@
-// "BitWidth and ByteLength remain two sorts of number": each is made by its check alone.
+// "BitWidth and ByteLength remain two sorts of number": each is made by its check alone. In clauses both are their numbers.
 #![tactic(auto)]
 
-ghost use Rattle.std.specs.Prelude.{◌≡◌};
+ghost use Rattle.std.specs.Prelude.{◌≡◌, ℕ, true};
 ghost use Rattle.kinds.specs.Kind.{is_bit_width, is_byte_length};
-ghost use Rattle.sizes.specs.Checked.{checked, width_number, length_number, width_of, length_of};
+ghost use Rattle.sizes.specs.Checked.{checked};
+
+use std::marker::Model;
 
 // The M of `int<M>` and `uint<M>`.
-#[derive(Clone, Copy)]
-pub struct BitWidth(u32);
-
-// The M of `bytes<M>`.
-#[derive(Clone, Copy)]
-pub struct ByteLength(usize);
-
-#[derive(Clone, Copy)]
-pub enum CheckedWidth {
-    Valid(BitWidth),
-    Invalid,
+#[derive(Clone, Copy, Debug, PartialEq, Eq)]
+pub struct BitWidth {
+    bits: u32,
 }
 
-#[derive(Clone, Copy)]
-pub enum CheckedLength {
-    Valid(ByteLength),
-    Invalid,
+impl Model for BitWidth {
+    ghost Value = { ℕ };
+
+    ghost view = { λ w. w.bits };
+
+    ghost invariant = { λ w. is_bit_width w.bits ≡ true };
+
+    ghost inverse = { λ n. record { bits = n } };
 }
 
 impl BitWidth {
     // Bit widths are multiples of 8 from 8 to 256; most are 256.
-    pub fn new(bit_width: u32) -> CheckedWidth
-        ensures { width_of result ≡ checked is_bit_width bit_width }
+    pub fn new(bit_width: u32) -> Option<BitWidth>
+        ensures { result ≡ checked is_bit_width bit_width }
     {
         if bit_width == 256 {
-            return CheckedWidth::Valid(BitWidth(bit_width));
+            return Some(BitWidth { bits: bit_width });
         }
         if bit_width < 8 {
-            return CheckedWidth::Invalid;
+            return None;
         }
         if 256 < bit_width {
-            return CheckedWidth::Invalid;
+            return None;
         }
         if bit_width % 8 == 0 {
-            return CheckedWidth::Valid(BitWidth(bit_width));
+            return Some(BitWidth { bits: bit_width });
         }
-        CheckedWidth::Invalid
+        None
     }
 
     pub fn get(self) -> u32
-        ensures { result ≡ width_number self }
+        ensures { (result ≡ self) × (is_bit_width result ≡ true) }
     {
-        self.0
+        self.bits
     }
+}
+
+// The M of `bytes<M>`.
+#[derive(Clone, Copy, Debug, PartialEq, Eq)]
+pub struct ByteLength {
+    octets: usize,
+}
+
+impl Model for ByteLength {
+    ghost Value = { ℕ };
+
+    ghost view = { λ n. n.octets };
+
+    ghost invariant = { λ n. is_byte_length n.octets ≡ true };
+
+    ghost inverse = { λ n. record { octets = n } };
 }
 
 impl ByteLength {
     // Byte lengths go from 1 to 32.
-    pub fn new(len: usize) -> CheckedLength
-        ensures { length_of result ≡ checked is_byte_length len }
+    pub fn new(len: usize) -> Option<ByteLength>
+        ensures { result ≡ checked is_byte_length len }
     {
         if len < 1 {
-            return CheckedLength::Invalid;
+            return None;
         }
         if 32 < len {
-            return CheckedLength::Invalid;
+            return None;
         }
-        CheckedLength::Valid(ByteLength(len))
+        Some(ByteLength { octets: len })
     }
 
     pub fn get(self) -> usize
-        ensures { result ≡ length_number self }
+        ensures { (result ≡ self) × (is_byte_length result ≡ true) }
     {
-        self.0
+        self.octets
     }
 }

@@ -3,7 +3,7 @@
 use mathlib.Core.Path.{◌≡◌, refl, sym, ◌∙◌, ap}
 use mathlib.Core.Bool.{true, false}
 use mathlib.Core.List.{List, [], ◌∷◌}
-use mathlib.Core.Option.{Option, none, some}
+use Rattle.std.specs.Prelude.{Option, None, Some}
 use Prim.Native.Nat.{ℕ, zero, suc, ◌+◌, ◌*◌, ◌-◌, ◌≤◌, ◌<◌}
 use native.Mathlib.Nat.{mul_assoc, mul_comm}
 use native.Mathlib.Omega.{arith}
@@ -33,20 +33,20 @@ use Rattle.static_kinds.specs.Places.{is_sized, product, SizedAre, SomeSized, Co
 -- Places.
 
 -- a place behind the data stands for none, and any other for itself
-module _ (d : List ℕ) (o : Option ℕ) (within : (e : ℕ) → o ≡ some e → e ≤ length d) (r : ℕ) (f : r ≡ place_or d o) where
-  pub place_none : length d < r → o ≡ none
+module _ (d : List ℕ) (o : Option ℕ) (within : (e : ℕ) → o ≡ Some e → e ≤ length d) (r : ℕ) (f : r ≡ place_or d o) where
+  pub place_none : length d < r → o ≡ None
   place_none h = go o refl f
     where
-      go : (x : Option ℕ) → o ≡ x → r ≡ place_or d x → x ≡ none
-      go none g k = refl
-      go (some e) g k = absurd (omega (arith, within e g))
+      go : (x : Option ℕ) → o ≡ x → r ≡ place_or d x → x ≡ None
+      go None g k = refl
+      go (Some e) g k = absurd (omega (arith, within e g))
 
-  pub place-some : r ≤ length d → o ≡ some r
+  pub place-some : r ≤ length d → o ≡ Some r
   place-some h = go o f
     where
-      go : (x : Option ℕ) → r ≡ place_or d x → x ≡ some r
-      go none k = absurd (omega arith)
-      go (some e) k = ap some (sym k)
+      go : (x : Option ℕ) → r ≡ place_or d x → x ≡ Some r
+      go None k = absurd (omega arith)
+      go (Some e) k = ap Some (sym k)
 
 -- Suffixes over a static kind.
 
@@ -57,14 +57,14 @@ static-arrays k (sized n ∷ ss) h = static-arrays (Kind.array k (sized n)) ss h
 static-arrays k (unsized ∷ ss) h = let z : ◌≡◌ {A = ℕ} 0 1 = let (p, q) = static-arrays (Kind.array k unsized) ss h in cc in absurd (omega arith)
 
 -- readers that agree wherever they are asked
-repeated-within : (L n : ℕ) (r s : ℕ → Option ℕ) (at : ℕ) → at ≤ L → ((a : ℕ) → a ≤ L → r a ≡ s a) → ((a e : ℕ) → r a ≡ some e → e ≤ L) → repeated n r at ≡ repeated n s at
+repeated-within : (L n : ℕ) (r s : ℕ → Option ℕ) (at : ℕ) → at ≤ L → ((a : ℕ) → a ≤ L → r a ≡ s a) → ((a e : ℕ) → r a ≡ Some e → e ≤ L) → repeated n r at ≡ repeated n s at
 unfolding repeated
 repeated-within L zero r s at h f g = refl
 repeated-within L (suc n) r s at h f g = rw (← f at h) (go (r at) refl (λ e l. repeated-within L n r s e l f g))
   where
     go : (x : Option ℕ) → r at ≡ x → ((e : ℕ) → e ≤ L → repeated n r e ≡ repeated n s e) → given x (λ e. repeated n r e) ≡ given x (λ e. repeated n s e)
-    go none p k = refl
-    go (some e) p k = k e (g at e p)
+    go None p k = refl
+    go (Some e) p k = k e (g at e p)
 
 module _ (d : List ℕ) where
   arrays-run : (ss : List Suffix) (k : Kind) → is_dynamic (arrays k ss) ≡ false → (m at : ℕ) → at ≤ length d → repeated m (λ a. end_of d (arrays k ss) a) at ≡ repeated (m * product ss) (λ a. end_of d k a) at
@@ -114,23 +114,23 @@ module _ (t d : List ℕ) (at count : ℕ) where
       unfolding repeated
       once k b n e = let z : n - i ≡ suc (n - (i + 1)) = omega (arith, count_low count n e) in ap (λ m. repeated m (λ a. end_of d (base_kind k.base) a) p) z
 
-      ends : (k : FieldKind) (b : BaseIs t k) (e : ℕ) → end_of d (base_kind k.base) p ≡ some e → (e ≡ p + static_length (base_kind k.base)) × (e ≤ length d)
+      ends : (k : FieldKind) (b : BaseIs t k) (e : ℕ) → end_of d (base_kind k.base) p ≡ Some e → (e ≡ p + static_length (base_kind k.base)) × (e ≤ length d)
       ends k b e f = static-end d (base_kind k.base) b.static p e f
 
       pub going_none : length d < q → RunEnds t d at count q
       going_none g k b n e =
           let R : ℕ → Option ℕ = λ a. end_of d (base_kind k.base) a in
-          let o : R p ≡ none = place_none d (R p) (λ y f. (ends k b y f).1) q (x k b) g in
+          let o : R p ≡ None = place_none d (R p) (λ y f. (ends k b y f).1) q (x k b) g in
           x k b ∙ ap (place_or d) (o ∙ sym (w.all k b n e ∙ once k b n e ∙ ap (λ y. given y (λ z. repeated (n - (i + 1)) R z)) o))
 
       module _ (g : q ≤ length d) where
-        found : (k : FieldKind) (b : BaseIs t k) → end_of d (base_kind k.base) p ≡ some q
+        found : (k : FieldKind) (b : BaseIs t k) → end_of d (base_kind k.base) p ≡ Some q
         found k b = place-some d (end_of d (base_kind k.base) p) (λ y f. (ends k b y f).1) q (x k b) g
 
         pub going_still : q ≡ p → RunEnds t d at count p
         going_still z k b n e =
             let R : ℕ → Option ℕ = λ a. end_of d (base_kind k.base) a in
-            sym (ap (place_or d) (w.all k b n e ∙ repeated-still (n - i) R p (found k b ∙ ap some z)))
+            sym (ap (place_or d) (w.all k b n e ∙ repeated-still (n - i) R p (found k b ∙ ap Some z)))
 
         pub going_next : SomeBase t → (q ≡ p → ⊥) → Going (i + 1) q
         going_next s z = record {
@@ -234,7 +234,7 @@ pub record Passing (b d : List ℕ) (at i p : ℕ) : Type 0 where
 pub pass_start : (b d : List ℕ) (at : ℕ) → SomeRow b → Place d at → Passing b d at 0 at
 pass_start b d at q h = record { inside = omega arith; place = h; ask = q; all = λ fs s. (fs, s, refl) }
 
-no_row : (d : List ℕ) (ks : Kinds) (p : ℕ) → ks ≡ no_kind → in_row d ks p ≡ some p
+no_row : (d : List ℕ) (ks : Kinds) (p : ℕ) → ks ≡ no_kind → in_row d ks p ≡ Some p
 unfolding in_row
 no_row d ks p e = ap (λ x. in_row d x p) e
 
@@ -246,9 +246,9 @@ pub once_is : (r : ℕ → Option ℕ) (at : ℕ) → repeated 1 r at ≡ r at
 unfolding repeated
 once_is r at = go (r at)
   where
-    go : (x : Option ℕ) → given x (λ e. some e) ≡ x
-    go none = refl
-    go (some e) = refl
+    go : (x : Option ℕ) → given x (λ e. Some e) ≡ x
+    go None = refl
+    go (Some e) = refl
 
 module _ (b d : List ℕ) (at i p : ℕ) (w : Passing b d at i p) where
   pub pass_end : length b ≤ i → RowEnds b d at p
@@ -288,14 +288,14 @@ module _ (b d : List ℕ) (at i p : ℕ) (w : Passing b d at i p) where
         answer : (j : FieldKind) → StaticIs part j → r ≡ place_or d (end_of d (tree_of j) p)
         answer j z = y j z ∙ ap (place_or d) (once_is (λ a. end_of d (tree_of j) a) p)
 
-        within : (j : FieldKind) → StaticIs part j → (e : ℕ) → end_of d (tree_of j) p ≡ some e → e ≤ length d
+        within : (j : FieldKind) → StaticIs part j → (e : ℕ) → end_of d (tree_of j) p ≡ Some e → e ≤ length d
         within j z e f = (static-end d (tree_of j) z.static p e f).1
 
         pub pass_none : length d < r → RowEnds b d at r
         pass_none g fs z =
             let (gs, v, e) = w.all fs z in
             let x = here gs v in
-            let o : end_of d (tree_of x.kind) p ≡ none = place_none d (end_of d (tree_of x.kind) p) (within x.kind x.first) r (answer x.kind x.first) g in
+            let o : end_of d (tree_of x.kind) p ≡ None = place_none d (end_of d (tree_of x.kind) p) (within x.kind x.first) r (answer x.kind x.first) g in
             answer x.kind x.first ∙ ap (place_or d) (o ∙ sym (e ∙ x.same p ∙ ap (λ u. given u (λ a. in_row d (kinds_of x.rest) a)) o))
 
         pub pass_next : r ≤ length d → Passing b d at s.to r
@@ -306,6 +306,6 @@ module _ (b d : List ℕ) (at i p : ℕ) (w : Passing b d at i p) where
           all = λ fs z.
               let (gs, v, e) = w.all fs z in
               let x = here gs v in
-              let o : end_of d (tree_of x.kind) p ≡ some r = place-some d (end_of d (tree_of x.kind) p) (within x.kind x.first) r (answer x.kind x.first) g in
+              let o : end_of d (tree_of x.kind) p ≡ Some r = place-some d (end_of d (tree_of x.kind) p) (within x.kind x.first) r (answer x.kind x.first) g in
               (x.rest, x.others, e ∙ x.same p ∙ ap (λ u. given u (λ a. in_row d (kinds_of x.rest) a)) o);
         }

@@ -3,7 +3,7 @@
 use mathlib.Core.Path.{◌≡◌, refl, sym, ◌∙◌, ap}
 use mathlib.Core.Bool.{true, false, false≢true}
 use mathlib.Core.List.{List, [], ◌∷◌, ◌++◌, append_assoc}
-use mathlib.Core.Option.{Option, none, some}
+use Rattle.std.specs.Prelude.{Option, None, Some}
 use Prim.Native.Nat.{ℕ, suc, ◌+◌, ◌-◌}
 use native.Mathlib.Omega.{arith}
 use lib.Dec.{eqb}
@@ -21,8 +21,8 @@ use Rattle.model.proofs.Scans.{word-written}
 use Rattle.strip.specs.Strip.{behind, or_closed, closing, brackets, next_line, outputs, next_signature}
 
 pub behind-behind : (m n : ℕ) (o : Option ℕ) → behind m (behind n o) ≡ behind (m + n) o
-behind-behind m n none = refl
-behind-behind m n (some k) = ap some (omega arith)
+behind-behind m n None = refl
+behind-behind m n (Some k) = ap Some (omega arith)
 
 -- bytes that leave as many brackets open as there were, and one at least all the while
 abbrev Passed : List ℕ → Type 0
@@ -37,8 +37,8 @@ nothing_passed : Passed []
 nothing_passed d t = go (closing (suc d) t)
   where
     go : (o : Option ℕ) → o ≡ behind 0 o
-    go none = refl
-    go (some n) = ap some (omega arith)
+    go None = refl
+    go (Some n) = ap Some (omega arith)
 
 both_passed : (u v : List ℕ) → Passed u → Passed v → Passed (u ++ v)
 both_passed u v p q d t =
@@ -92,43 +92,43 @@ mutual
   rest-closed (more_kinds k ks) =
       then-closed (comma ∷ []) (kind_text k ++ rest_text ks) (byte_passed comma refl refl) (then-closed (kind_text k) (rest_text ks) (kind_passed k) (rest-closed ks))
 
-brackets-text : (ks : Kinds) (t : List ℕ) → brackets (kind_text (tuple ks) ++ t) ≡ some (length (kind_text (tuple ks)))
+brackets-text : (ks : Kinds) (t : List ℕ) → brackets (kind_text (tuple ks) ++ t) ≡ Some (length (kind_text (tuple ks)))
 unfolding kind_text
-brackets-text ks t = ap (behind 1) (list-closed ks 0 t) ∙ ap some (omega arith)
+brackets-text ks t = ap (behind 1) (list-closed ks 0 t) ∙ ap Some (omega arith)
 
 drop-front : (u t : List ℕ) → drop (length u) (u ++ t) ≡ t
 drop-front [] t = refl
 drop-front (c ∷ u) t = drop-front u t
 
 -- the line of a name that is a word
-pub line_first : (p : Prototype) (t : List ℕ) → is_word p.name ≡ true → next_line (canonical p ++ t) ≡ some (length (canonical p))
+pub line_first : (p : Prototype) (t : List ℕ) → is_word p.name ≡ true → next_line (canonical p ++ t) ≡ Some (length (canonical p))
 unfolding next_line canonical kind_text
 line_first p t h =
     let r : List ℕ = kind_text (tuple p.kinds) ++ t in
     let e : word_length (p.name ++ r) ≡ length p.name = word-written p.name r h refl in
     ap next_line (append_assoc p.name (kind_text (tuple p.kinds)) t) ∙ go p.name r h e (brackets-text p.kinds t) ∙ rw (length-append p.name (kind_text (tuple p.kinds)))
   where
-    go : (w r : List ℕ) → is_word w ≡ true → word_length (w ++ r) ≡ length w → {m : ℕ} → brackets r ≡ some m → next_line (w ++ r) ≡ some (length w + m)
+    go : (w r : List ℕ) → is_word w ≡ true → word_length (w ++ r) ≡ length w → {m : ℕ} → brackets r ≡ Some m → next_line (w ++ r) ≡ Some (length w + m)
     go [] r h e f = cc
     go (c ∷ w) r h e f = rw e (ap (behind (length (c ∷ w))) (ap brackets (drop-front (c ∷ w) r) ∙ f))
 
 -- and its signature
-pub signature-first : (f : Signature) (t : List ℕ) → is_word f.name ≡ true → next_signature (signature f ++ t) ≡ some (length (signature f))
+pub signature-first : (f : Signature) (t : List ℕ) → is_word f.name ≡ true → next_signature (signature f ++ t) ≡ Some (length (signature f))
 unfolding next_signature signature
 signature-first f t h =
     let p : Prototype = record { name = f.name; kinds = f.inputs } in
     let u : List ℕ = kind_text (tuple f.outputs) in
     let r : List ℕ = ascii ":" ++ (u ++ t) in
-    let line : next_line (canonical p ++ r) ≡ some (length (canonical p)) = line_first p r h in
+    let line : next_line (canonical p ++ r) ≡ Some (length (canonical p)) = line_first p r h in
     let there : next_signature (canonical p ++ r) ≡ behind (length (canonical p)) (outputs (drop (length (canonical p)) (canonical p ++ r))) = rw line in
-    let rest : outputs (drop (length (canonical p)) (canonical p ++ r)) ≡ some (1 + length u) = ap outputs (drop-front (canonical p) r) ∙ ap (behind 1) (brackets-text f.outputs t) in
-    ap next_signature (append_assoc (canonical p) (ascii ":" ++ u) t) ∙ there ∙ ap (behind (length (canonical p))) rest ∙ ap some (omega (arith, length-append (canonical p) (ascii ":" ++ u)))
+    let rest : outputs (drop (length (canonical p)) (canonical p ++ r)) ≡ Some (1 + length u) = ap outputs (drop-front (canonical p) r) ∙ ap (behind 1) (brackets-text f.outputs t) in
+    ap next_signature (append_assoc (canonical p) (ascii ":" ++ u) t) ∙ there ∙ ap (behind (length (canonical p))) rest ∙ ap Some (omega (arith, length-append (canonical p) (ascii ":" ++ u)))
 
 -- nothing is left of no bytes
-pub no_line_lem : next_line [] ≡ none
+pub no_line_lem : next_line [] ≡ None
 unfolding next_line word_length
 no_line_lem = refl
 
-pub no_signature_lem : next_signature [] ≡ none
+pub no_signature_lem : next_signature [] ≡ None
 unfolding next_signature next_line word_length
 no_signature_lem = refl

@@ -3,7 +3,7 @@
 use mathlib.Core.Path.{◌≡◌, refl, sym, ◌∙◌, ap}
 use mathlib.Core.Bool.{Bool, true, false, ◌&&◌, ◌||◌, or-false}
 use mathlib.Core.List.{List, [], ◌∷◌}
-use mathlib.Core.Option.{Option, none, some}
+use Rattle.std.specs.Prelude.{Option, None, Some}
 use mathlib.Core.Logic.{inl, inr}
 use Prim.Native.Nat.{ℕ, zero, suc, ◌+◌, ◌*◌, ◌-◌, ◌^◌, ◌≤◌, ◌<◌}
 use native.Mathlib.Omega.{arith}
@@ -110,22 +110,22 @@ module _ (n low v : ℕ) (z : 0 < n) where
       go zero h = absurd (omega arith)
       go (suc m) h = refl
 
-  pub scalar-low : v < low → char_from v 0 ≡ scalar n low (some v)
+  pub scalar-low : v < low → char_from v 0 ≡ scalar n low (Some v)
   unfolding char_from
   scalar-low h = rw (scalar, lt-leb low v h)
 
-  pub scalar-high : low ≤ v → 0x10FFFF < v → char_from v 0 ≡ scalar n low (some v)
+  pub scalar-high : low ≤ v → 0x10FFFF < v → char_from v 0 ≡ scalar n low (Some v)
   unfolding char_from
   scalar-high h k = rw (scalar, le-leb low v h, lt-leb v 0x10FFFF k)
 
-  pub scalar_below : low ≤ v → v ≤ 0x10FFFF → v < 0xD800 → char_from v n ≡ scalar n low (some v)
+  pub scalar_below : low ≤ v → v ≤ 0x10FFFF → v < 0xD800 → char_from v n ≡ scalar n low (Some v)
   scalar_below h k l = some-char ∙ rw (scalar, le-leb low v h, le-leb v 0x10FFFF k, lt-leb 0xD800 v l)
 
-  pub scalar_surrogate : low ≤ v → v ≤ 0x10FFFF → 0xD800 ≤ v → v ≤ 0xDFFF → char_from v 0 ≡ scalar n low (some v)
+  pub scalar_surrogate : low ≤ v → v ≤ 0x10FFFF → 0xD800 ≤ v → v ≤ 0xDFFF → char_from v 0 ≡ scalar n low (Some v)
   unfolding char_from
   scalar_surrogate h k l m = rw (scalar, le-leb low v h, le-leb v 0x10FFFF k, le-leb 0xD800 v l, le-leb v 0xDFFF m)
 
-  pub scalar-above : low ≤ v → v ≤ 0x10FFFF → 0xD800 ≤ v → 0xDFFF < v → char_from v n ≡ scalar n low (some v)
+  pub scalar-above : low ≤ v → v ≤ 0x10FFFF → 0xD800 ≤ v → 0xDFFF < v → char_from v n ≡ scalar n low (Some v)
   scalar-above h k l m = some-char ∙ rw (scalar, le-leb low v h, le-leb v 0x10FFFF k, le-leb 0xD800 v l, lt-leb v 0xDFFF m)
 
 -- "A blank is a character with Unicode White_Space": single code points and ranges, as the code's match has them
@@ -180,10 +180,10 @@ module _ (v : ℕ) (n : OneOf singles v → ⊥) where
   blank-last k l = by-ranges _ (rw (le-leb 9 v (omega arith), lt-leb v 13 (omega arith), le-leb 0x2000 v (omega arith), lt-leb v 0x200A (omega arith), le-leb 0x2028 v k, lt-leb v 0x2029 l))
 
 -- the code's answer where the code point may be too large
-scalar-code : (n low : ℕ) (o : Option ℕ) → scalar n low (some (code_of o)) ≡ scalar n low o
+scalar-code : (n low : ℕ) (o : Option ℕ) → scalar n low (Some (code_of o)) ≡ scalar n low o
 unfolding code_of
-scalar-code n low (some v) = refl
-scalar-code n low none = go (leb low 0x110000)
+scalar-code n low (Some v) = refl
+scalar-code n low None = go (leb low 0x110000)
   where
     go : (b : Bool) → (elim (b && false && true) [ true ↦ char 0x110000 n | false ↦ no_char ]) ≡ no_char
     go true = refl
@@ -226,23 +226,23 @@ module _ (t : List ℕ) (z : length t ≡ 0 → ⊥) where
 
   -- a character of n bytes, whose tail bytes the code found to stand for r
   several : (n low k lead v m r : ℕ) → char_of (get_or t 0 0 ∷ drop 1 t) ≡ scalar n low (tails k lead (drop 1 t))
-      → r ≡ code_of (tails k lead (take (length t - 1) (drop 1 t))) → char_from v m ≡ scalar n low (some r) → CharIs t v m
+      → r ≡ code_of (tails k lead (take (length t - 1) (drop 1 t))) → char_from v m ≡ scalar n low (Some r) → CharIs t v m
   several n low k lead v m r e q f =
       let g : r ≡ code_of (tails k lead (drop 1 t)) = rw part-rest at q in
       by_first (scalar n low (tails k lead (drop 1 t))) v m e (f ∙ rw g (scalar-code n low (tails k lead (drop 1 t))))
 
   pub char-two : (v m r : ℕ) → 0xC0 ≤ get_or t 0 0 → get_or t 0 0 < 0xE0 → r ≡ code_of (tails 1 (get_or t 0 0 - 0xC0) (take (length t - 1) (drop 1 t)))
-      → char_from v m ≡ scalar 2 0x80 (some r) → CharIs t v m
+      → char_from v m ≡ scalar 2 0x80 (Some r) → CharIs t v m
   unfolding char_of
   char-two v m r h k q f = several 2 0x80 1 (get_or t 0 0 - 0xC0) v m r (rw (le-ltb (get_or t 0 0) 128 (omega arith), le-leb 0xC0 (get_or t 0 0) h, le-leb (get_or t 0 0) 0xDF (omega arith))) q f
 
   pub char_three : (v m r : ℕ) → 0xE0 ≤ get_or t 0 0 → get_or t 0 0 < 0xF0 → r ≡ code_of (tails 2 (get_or t 0 0 - 0xE0) (take (length t - 1) (drop 1 t)))
-      → char_from v m ≡ scalar 3 0x800 (some r) → CharIs t v m
+      → char_from v m ≡ scalar 3 0x800 (Some r) → CharIs t v m
   unfolding char_of
   char_three v m r h k q f = several 3 0x800 2 (get_or t 0 0 - 0xE0) v m r (rw (le-ltb (get_or t 0 0) 128 (omega arith), le-leb 0xC0 (get_or t 0 0) (omega arith), lt-leb (get_or t 0 0) 0xDF (omega arith), le-leb 0xE0 (get_or t 0 0) h, le-leb (get_or t 0 0) 0xEF (omega arith))) q f
 
   pub char-four : (v m r : ℕ) → 0xF0 ≤ get_or t 0 0 → get_or t 0 0 < 0xF8 → r ≡ code_of (tails 3 (get_or t 0 0 - 0xF0) (take (length t - 1) (drop 1 t)))
-      → char_from v m ≡ scalar 4 0x10000 (some r) → CharIs t v m
+      → char_from v m ≡ scalar 4 0x10000 (Some r) → CharIs t v m
   unfolding char_of
   char-four v m r h k q f = several 4 0x10000 3 (get_or t 0 0 - 0xF0) v m r (rw (le-ltb (get_or t 0 0) 128 (omega arith), le-leb 0xC0 (get_or t 0 0) (omega arith), lt-leb (get_or t 0 0) 0xDF (omega arith), le-leb 0xE0 (get_or t 0 0) (omega arith), lt-leb (get_or t 0 0) 0xEF (omega arith), le-leb 0xF0 (get_or t 0 0) h, le-leb (get_or t 0 0) 0xF7 (omega arith))) q f
 

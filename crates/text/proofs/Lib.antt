@@ -5,3 +5,4 @@ pub mod Compare
 pub mod Characters
 pub mod Skipping
 pub mod Numbers
+pub mod Reaching

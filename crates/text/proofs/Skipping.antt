@@ -9,12 +9,16 @@ use native.Mathlib.Nat.{zero-add}
 use lib.Dec.{eqb}
 use lib.ListN.{length, take, drop, get_or}
 use lib.Seq.{drop-cons, drop-drop}
-use borrow.Author.Tests.{lt-ltb, ne_eqb, eqb-true}
+use borrow.Author.Tests.{lt-ltb, ne_eqb, eqb-true, ltb-true, ltb-false}
+use denote.Bor.{Bor}
+use Rattle.std.specs.Prelude.{Option, None, Some}
+use Rattle.std.specs.Option.{option_copied}
+use Rattle.std.specs.Slice.{IsItemAt}
 use Rattle.kinds.specs.Bytes.{all, is_ascii, comma, rparen}
 use Rattle.model.specs.Text.{span, char_of, char_length, character, valid_length, is_blank, blank_length, blank, peek, run_byte, run_length}
 use Rattle.model.proofs.Scans.{span_none, span-item, blank_nil, blank-ascii, blank-space, blank-plain, skip-within, skip-part, peek-byte, peek-end, part-rest, scan_none, scan_item, valid-ascii}
 use Rattle.model.proofs.Stands.{peek-first}
-use Rattle.text.specs.Found.{char_from, CharIs, Skipped}
+use Rattle.text.specs.Found.{byte_or_end, char_from, CharIs, Skipped}
 
 module _ (t : List ℕ) (v n : ℕ) (r : Bool) (i : CharIs t v n) (e : r ≡ is_blank v) where
   pub blank_yes : r ≡ true → n ≡ blank t
@@ -87,15 +91,16 @@ module _ (t : List ℕ) where
 pub skipped : (s : List ℕ) (at r : ℕ) → at ≤ length s → r ≡ span blank (take (length s - at) (drop at s)) → Skipped s at (at + r)
 skipped s at r h e = let f = skip-part s at r e in record { place = f; low = omega arith; inside = rw f (skip-within s at h) }
 
-pub peek-here : (s : List ℕ) (at : ℕ) → at < length s → get_or s at 0 ≡ peek s at
-peek-here s at h = sym (peek-byte s at (get_or s at 0) (drop (suc at) s) (drop-cons s at 0 h))
+pub peek-item : (s : List ℕ) (at : ℕ) (r : Option (Bor ℕ)) → IsItemAt s at r → byte_or_end (option_copied r) ≡ peek s at
+unfolding byte_or_end
+peek-item s at None h = sym (peek-end s at (ltb-false at (length s) (sym h.0)))
+peek-item s at (Some x) h =
+    let l : at < length s = ltb-true at (length s) (sym h.0) in
+    h.4 (omega arith) 0 ∙ sym (peek-byte s at (get_or s at 0) (drop (suc at) s) (drop-cons s at 0 l))
 
 -- a place in what stands behind another
 pub peek-part : (s : List ℕ) (at n : ℕ) → peek (drop at s) n ≡ peek s (at + n)
 peek-part s at n = peek-first (drop at s) n _ refl ∙ sym (peek-first s (at + n) _ (sym (drop-drop n at s)))
-
-pub peek-past : (s : List ℕ) (at : ℕ) → length s ≤ at → 256 ≡ peek s at
-peek-past s at h = sym (peek-end s at h)
 
 -- a run goes on, or not, at a place
 module _ (t : List ℕ) (i : ℕ) (h : i < length t) where
@@ -148,4 +153,4 @@ pub valid-start : (t : List ℕ) → 0 + span character (drop 0 t) ≡ valid_len
 unfolding valid_length
 valid-start t = zero-add _
 
-pub ruleset skipping = (blank-byte, blank_no_byte, blank-end, run-start, valid-start, blank_yes, blank_no, char-length, valid-whole, blanks_end, blanks_none, blanks_space, blanks_over, skipped, peek-here, peek-past, run-plain, run-high, run-comma, run_paren, run-space, run_slow, run-stop, run_more)
+pub ruleset skipping = (blank-byte, blank_no_byte, blank-end, run-start, valid-start, blank_yes, blank_no, char-length, valid-whole, blanks_end, blanks_none, blanks_space, blanks_over, skipped, peek-item, run-plain, run-high, run-comma, run_paren, run-space, run_slow, run-stop, run_more)

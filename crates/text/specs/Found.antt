@@ -1,11 +1,8 @@
 -- What the functions of this crate answer, by the definitions.
 -- Assumes nothing.
-use Rattle.std.specs.Prelude.{◌≡◌, Bool, true, false, ◌||◌, List, [], ◌∷◌, ℕ, zero, suc, ◌+◌, ◌*◌, ◌-◌, ◌≤◌, ◌<◌, ltb, eqb, length, drop}
-use Rattle.std.proofs.Math.Option.{Option, none, some}
+use Rattle.std.specs.Prelude.{◌≡◌, Bool, true, false, ◌||◌, List, [], ◌∷◌, ℕ, zero, suc, ◌+◌, ◌*◌, ◌-◌, ◌≤◌, ◌<◌, ltb, eqb, length, drop, Option, None, Some}
 use Rattle.kinds.specs.Bytes.{between, is_digit, is_word_byte}
 use Rattle.kinds.specs.Decimal.{at_most}
-use Rattle.text.specs.declared.Maybe.{Maybe}
-use Rattle.text.specs.declared.Maybe.TheVariants.{Value, Absent}
 use Rattle.model.specs.Text.{span, one, Char, char, no_char, is_tail, char_of, skip, word_length, run_byte, run_length}
 
 -- the six bits of a tail byte, and 64 if it is none
@@ -14,8 +11,8 @@ tail_of c = elim (is_tail c) [ true ↦ c - 128 | false ↦ 64 ]
 
 -- a code point, or one that is too large where there is none
 unfoldable pub code_of : Option ℕ → ℕ
-code_of none = 0x110000
-code_of (some v) = v
+code_of None = 0x110000
+code_of (Some v) = v
 
 -- a character by its code point and length; the length is 0 where there is none
 unfoldable pub char_from : ℕ → ℕ → Char
@@ -27,20 +24,20 @@ pub record CharIs (t : List ℕ) (v n : ℕ) : Type 0 where
   pub same : char_from v n ≡ char_of t
   pub inside : n ≤ length t
 
+-- a byte, and 256 where there is none
+unfoldable pub byte_or_end : Option ℕ → ℕ
+byte_or_end None = 256
+byte_or_end (Some c) = c
+
 -- the place behind the blanks, which lies between `at` and the end
 pub record Skipped (s : List ℕ) (at p : ℕ) : Type 0 where
   pub place : p ≡ skip s at
   pub low : at ≤ p
   pub inside : p ≤ length s
 
--- what the cases of a number say
-unfoldable pub to_option : Maybe → Option ℕ
-to_option (Value v) = some v
-to_option Absent = none
-
 -- one more digit: if n is the number x within the limit m, r is x * 10 + d within it
-pub record Pushed (m : ℕ) (n : Maybe) (d : ℕ) (r : Maybe) : Type 0 where
-  pub more : (x : ℕ) → to_option n ≡ at_most m (some x) → to_option r ≡ at_most m (some (x * 10 + d))
+pub record Pushed (m : ℕ) (n : Option ℕ) (d : ℕ) (r : Option ℕ) : Type 0 where
+  pub more : (x : ℕ) → n ≡ at_most m (Some x) → r ≡ at_most m (Some (x * 10 + d))
 
 -- the value of a digit, and 10 for any other byte
 pub record DigitIs (c d : ℕ) : Type 0 where

@@ -1,15 +1,14 @@
 // Scanning texts: bytes, characters, blanks, words, runs and numbers. A scanner is handed a part of the text and answers a length.
 #![tactic(auto)]
 
-ghost use Rattle.std.specs.Prelude.{◌≡◌, ◌+◌, ◌*◌, ◌/◌, ◌≤◌, ◌<◌, true, eqb, length, take, drop, ◌||◌};
-ghost use Rattle.std.proofs.Math.Option.{some};
+ghost use Rattle.std.specs.Prelude.{◌≡◌, ◌+◌, ◌*◌, ◌/◌, ◌≤◌, ◌<◌, true, eqb, length, take, drop, ◌||◌, Some};
 ghost use Rattle.std.specs.Int.Count.{count_trailing_zeros};
 ghost use Rattle.kinds.specs.Bytes.{all, between, is_ascii, is_digit, is_letter, is_word_byte, same};
 ghost use Rattle.kinds.specs.Decimal.{plain, number};
 ghost use Rattle.model.specs.Layout.{little_endian};
 ghost use Rattle.model.specs.Text.{span, one, tails, scalar, valid_length, is_blank, blank, skip, peek, word_length, run_byte, run_length};
 ghost use Rattle.model.specs.KindText.{starts};
-ghost use Rattle.text.specs.Found.{is_alphabetic, is_plain, is_stop, flags, Begun, Runs, tail_of, code_of, char_from, CharIs, Skipped, to_option, Pushed, DigitIs};
+ghost use Rattle.text.specs.Found.{byte_or_end, is_alphabetic, is_plain, is_stop, flags, Begun, Runs, tail_of, code_of, char_from, CharIs, Skipped, Pushed, DigitIs};
 
 // 0-9
 fn is_digit(c: u8) -> bool
@@ -231,7 +230,7 @@ pub struct Char {
 // A code point that wants n bytes since it is at least low: no overlong form, no surrogate, at most 10FFFF.
 fn scalar(n: usize, low: u32, code: u32) -> Char
     requires { 0 < n }
-    ensures { char_from result.code result.len ≡ scalar n low (some code) }
+    ensures { char_from result.code result.len ≡ scalar n low (Some code) }
 {
     if code < low {
         return Char { code, len: 0 };
@@ -358,11 +357,12 @@ pub fn skip(s: &[u8], at: usize) -> usize
     at + blanks(&s[at..])
 }
 
-// The byte at a place, and 256 at the end.
-pub fn peek(s: &[u8], at: usize) -> u16
-    ensures { result ≡ peek s.now at }
+// The byte at a place, none at the end.
+#[tactic(auto, using(crate::proofs::Skipping::skipping))]
+pub fn peek(s: &[u8], at: usize) -> Option<u8>
+    ensures { byte_or_end result ≡ peek s.now at }
 {
-    if at < s.len() { s[at] as u16 } else { 256 }
+    s.get(at).copied()
 }
 
 // The length of the longest valid prefix.
@@ -471,29 +471,22 @@ pub fn run(t: &[u8]) -> usize
 
 // Numbers.
 
-// A number that may be absent.
-#[derive(Clone, Copy)]
-pub enum Maybe {
-    Value(u64),
-    Absent,
-}
-
 // One more digit behind a number, absent where the limit is passed.
-fn push(limit: u64, n: Maybe, d: u64) -> Maybe
+fn push(limit: u64, n: Option<u64>, d: u64) -> Option<u64>
     requires { d < 10 }
     ensures { Pushed limit n d result }
 {
     match n {
-        Maybe::Value(v) => {
+        Some(v) => {
             if limit < d {
-                return Maybe::Absent;
+                return None;
             }
             if (limit - d) / 10 < v {
-                return Maybe::Absent;
+                return None;
             }
-            Maybe::Value(v * 10 + d)
+            Some(v * 10 + d)
         }
-        Maybe::Absent => Maybe::Absent,
+        None => None,
     }
 }
 
@@ -511,18 +504,18 @@ fn digit(c: u8) -> u64
 }
 
 // Digits alone, with a value of at most the limit; leading zeros do not count.
-pub fn plain(limit: u64, t: &[u8]) -> Maybe
-    ensures { to_option result ≡ plain limit t.now }
+pub fn plain(limit: u64, t: &[u8]) -> Option<u64>
+    ensures { result ≡ plain limit t.now }
 {
     if t.len() == 0 {
-        return Maybe::Absent;
+        return None;
     }
-    let mut n = Maybe::Value(0);
+    let mut n = Some(0);
     let mut i = 0;
     while i < t.len() {
         let d = digit(t[i]);
         if d == 10 {
-            return Maybe::Absent;
+            return None;
         }
         n = push(limit, n, d);
         i += 1;
@@ -531,14 +524,14 @@ pub fn plain(limit: u64, t: &[u8]) -> Maybe
 }
 
 // A number in plain decimal, with a value of at most the limit: no sign, and no `0` in front of more.
-pub fn number(limit: u64, t: &[u8]) -> Maybe
-    ensures { to_option result ≡ number limit t.now }
+pub fn number(limit: u64, t: &[u8]) -> Option<u64>
+    ensures { result ≡ number limit t.now }
 {
     if t.len() < 2 {
         return plain(limit, t);
     }
     if t[0] == b'0' {
-        return Maybe::Absent;
+        return None;
     }
     plain(limit, t)
 }

@@ -1,7 +1,7 @@
-pub mod Widths
-pub mod Words
-pub mod Peels
-pub mod Runs
 pub mod Written
+pub mod Suffixes
+pub mod Words
+pub mod Peeling
+pub mod Runs
 pub mod Suffixing
 pub mod Leaves

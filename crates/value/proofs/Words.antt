@@ -1,140 +1,110 @@
--- Elementary kinds, by the words that the code compares.
+-- Elementary kinds, by the words and numbers that the code finds.
 -- Assumes nothing.
-use mathlib.Core.Path.{◌≡◌, refl, sym, ◌∙◌, ap}
-use mathlib.Core.Bool.{Bool, true, false}
-use mathlib.Core.List.{List, [], ◌∷◌, ◌++◌}
-use mathlib.Core.Option.{Option, none, some}
-use Prim.Native.Nat.{ℕ, ◌-◌, ◌≤◌}
-use native.Mathlib.Omega.{arith}
-use lib.ListN.{length, take, drop, length-take, length-drop, take-append-drop}
-use lib.Seq.{take_all}
+use Rattle.std.proofs.Common.{◌≡◌, refl, sym, ◌∙◌, ap, Bool, true, false, List, [], ◌∷◌, ◌++◌, ℕ, arith, length, take, drop, take-append-drop, nat_eq, Option, None, Some, Ok, Err}
+use Rattle.std.specs.Option.{option_and_then, option_map, ok_or}
+use Rattle.std.specs.Cmp.Lexicographic.{pointwise}
+use Rattle.std.proofs.lemmas.Bool.{true≢false}
+use Rattle.std.proofs.Math.Seq.{take_all}
+use Rattle.std.proofs.lemmas.Option.{none-some}
+use Rattle.std.proofs.lemmas.Slice.Eq.{bytes_eq-Decides}
 use Rattle.kinds.specs.Bytes.{ascii, same}
-use Rattle.kinds.specs.Decimal.{number}
-use Rattle.kinds.specs.Kind.{BitWidth as KindWidth, Elementary, int, uint, bytes, is_bit_width, is_byte_length}
-use Rattle.kinds.proofs.Logic.{same_self, same_equal, same_unequal}
-use Rattle.model.specs.declared.Refusal.TheVariants.{Unknown}
-use Rattle.model.specs.KindText.{ok, starts, width, byte_length, with_number, elementary_of}
-use Rattle.model.proofs.Scans.{part-rest}
+use Rattle.kinds.specs.Decimal.{number, plain, unsigned}
+use Rattle.kinds.specs.Kind.{BitWidth, bits, octets, is_bit_width, is_byte_length, Elementary, int, uint, fixed_bytes, bytes}
+use Rattle.kinds.proofs.Logic.{same_equal, same_unequal}
+use Rattle.kinds.proofs.Decimal.{number_bound}
+use Rattle.sizes.specs.Checked.{checked}
+use Rattle.model.specs.declared.Refusal.{Refusal}
+use Rattle.model.specs.declared.Refusal.TheVariants.{InvalidBitWidth, InvalidByteLength, Unknown}
+use Rattle.model.specs.KindText.{ok, err, lookup, kind_words, starts, width, byte_length, with_number, elementary_of}
+use Rattle.value.specs.declared.Base.{Base}
 use Rattle.value.specs.declared.Base.TheVariants as base
-use Rattle.value.specs.declared.Spelled.{Spelled}
-use Rattle.value.specs.declared.Spelled.TheVariants as spelled
-use Rattle.sizes.specs.declared.CheckedWidth.{CheckedWidth}
-use Rattle.sizes.specs.declared.CheckedLength.{CheckedLength}
-use Rattle.sizes.specs.Checked.{checked, width_of, length_of}
-use Rattle.sizes.proofs.Checks.{checked-true, checked-false}
-use Rattle.value.specs.Elementary.{to_elementary, to_result, checked_by, width_behind, length_behind, of_width, of_length}
+use Rattle.value.specs.Elementary.{to_elementary, to_result, width_behind, length_behind, words}
 
--- a text that begins with a word is the word and what is left
-split : (w t : List ℕ) → starts w t ≡ true → t ≡ w ++ drop (length w) t
-split w t e = sym (take-append-drop (length w) t) ∙ ap (λ (u : List ℕ). u ++ drop (length w) t) (sym ((same_equal w (take (length w) t)).0 e))
+-- the number behind a word
+widest_is : checked is_bit_width 256 ≡ Some 256
+unfolding checked
+widest_is = refl
 
--- and is as long
-pub starts-long : (w t : List ℕ) (r : Bool) → r ≡ starts w t → r ≡ true → length w ≤ length t
-starts-long w t r e f = omega (arith, ap length ((same_equal w (take (length w) t)).0 (sym e ∙ f)), length-take (length w) t)
+pub behind-none : (t : List ℕ) → length t ≡ 0 → checked is_bit_width 256 ≡ width_behind t
+unfolding width_behind
+behind-none [] h = widest_is
+behind-none (c ∷ t) h = absurd (omega arith)
 
--- a number that is checked, and its kind
-width-of : (f : KindWidth → Elementary) (o : Option ℕ) → of_width f (checked_by (checked is_bit_width) o) ≡ width f o
-width-of f none = refl
-width-of f (some n) = go (is_bit_width n) refl
-  where
-    go : (b : Bool) → is_bit_width n ≡ b → of_width f (checked is_bit_width n) ≡ width f (some n)
-    go true e = rw (checked-true is_bit_width n e, width, e)
-    go false e = rw (checked-false is_bit_width n e, width, e)
+pub behind_widest : (t : List ℕ) → same (ascii "256") t ≡ true → checked is_bit_width 256 ≡ width_behind t
+unfolding width_behind number plain unsigned
+behind_widest t e = let widest : checked is_bit_width 256 ≡ width_behind (ascii "256") = refl in widest ∙ ap width_behind ((same_equal (ascii "256") t).0 e)
 
-length-of : (o : Option ℕ) → of_length (checked_by (checked is_byte_length) o) ≡ byte_length o
-length-of none = refl
-length-of (some n) = go (is_byte_length n) refl
-  where
-    go : (b : Bool) → is_byte_length n ≡ b → of_length (checked is_byte_length n) ≡ byte_length (some n)
-    go true e = rw (checked-true is_byte_length n e, byte_length, e)
-    go false e = rw (checked-false is_byte_length n e, byte_length, e)
+pub behind-number : (t : List ℕ) (o : Option ℕ) → (length t ≡ 0 → ⊥) → number 256 t ≡ o → width_behind t ≡ option_and_then (checked is_bit_width) o
+unfolding width_behind
+behind-number [] o h e = absurd (h refl)
+behind-number (c ∷ t) o h e = ap (option_and_then (checked is_bit_width)) e
 
-uint-text : (u : List ℕ) → of_width uint (width_behind u) ≡ elementary_of (ascii "uint" ++ u)
-unfolding elementary_of width_behind with_number
-uint-text [] = refl
-uint-text (c ∷ u) = width-of uint (number 256 (c ∷ u))
+pub ruleset behind = (behind-none, behind_widest, behind-number, number_bound)
 
-int-text : (u : List ℕ) → of_width int (width_behind u) ≡ elementary_of (ascii "int" ++ u)
-unfolding elementary_of width_behind with_number
-int-text [] = refl
-int-text (c ∷ u) = width-of int (number 256 (c ∷ u))
+-- a number that has to pass a test, as a kind
+numbered : (test : ℕ → Bool) (w : Refusal) (f : ℕ → Base) (k : ℕ → Elementary) → ((n : ℕ) → to_elementary (f n) ≡ k n) → (n : ℕ)
+    → to_result (ok_or (option_map f (checked test n)) w) ≡ elim (test n) [ true ↦ ok (k n) | false ↦ err w ]
+unfolding checked to_result
+numbered test w f k same n =
+    elim (test n) as (λ b. to_result (ok_or (option_map f (elim b [ true ↦ Some n | false ↦ None ])) w) ≡ elim b [ true ↦ ok (k n) | false ↦ err w ]) [ true ↦ ap ok (same n) | false ↦ refl ]
 
-bytes-text : (c : ℕ) (u : List ℕ) → of_length (length_behind (c ∷ u)) ≡ elementary_of (ascii "bytes" ++ (c ∷ u))
-unfolding elementary_of length_behind with_number
-bytes-text c u = length-of (number 32 (c ∷ u))
+width-read : (f : ℕ → Base) (k : BitWidth → Elementary) → ((n : ℕ) → to_elementary (f n) ≡ k (bits n)) → (o : Option ℕ)
+    → to_result (ok_or (option_map f (option_and_then (checked is_bit_width) o)) InvalidBitWidth) ≡ width k o
+unfolding to_result
+width-read f k same None = refl
+width-read f k same (Some n) = numbered is_bit_width InvalidBitWidth f (λ m. k (bits m)) same n
 
-module _ (t : List ℕ) (r : Bool) (s : Spelled) where
-  pub is-uint : (w : CheckedWidth) → r ≡ starts (ascii "uint") t → r ≡ true → width_of w ≡ width_behind (take (length t - 4) (drop 4 t)) → to_result s ≡ of_width uint (width_of w) → to_result s ≡ elementary_of t
-  is-uint w e f g h =
-      let g' : width_of w ≡ width_behind (drop 4 t) = rw part-rest at g in
-      h ∙ ap (of_width uint) g' ∙ uint-text (drop 4 t) ∙ ap elementary_of (sym (split (ascii "uint") t (sym e ∙ f)))
+length-read : (o : Option ℕ) → to_result (ok_or (option_map base.FixedBytes (option_and_then (checked is_byte_length) o)) InvalidByteLength) ≡ byte_length o
+unfolding to_result to_elementary
+length-read None = refl
+length-read (Some n) = numbered is_byte_length InvalidByteLength base.FixedBytes (λ m. fixed_bytes (octets m)) (λ m. refl) n
 
-  pub is-int : (w : CheckedWidth) → r ≡ starts (ascii "int") t → r ≡ true → width_of w ≡ width_behind (take (length t - 3) (drop 3 t)) → to_result s ≡ of_width int (width_of w) → to_result s ≡ elementary_of t
-  is-int w e f g h =
-      let g' : width_of w ≡ width_behind (drop 3 t) = rw part-rest at g in
-      h ∙ ap (of_width int) g' ∙ int-text (drop 3 t) ∙ ap elementary_of (sym (split (ascii "int") t (sym e ∙ f)))
+-- a text that begins with a word, and one that does not
+begun : (w t : List ℕ) → pointwise nat_eq (take (length w) t) w ≡ true → t ≡ w ++ drop (length w) t
+begun w t e = sym (take-append-drop (length w) t) ∙ ap (λ (u : List ℕ). u ++ drop (length w) t) ((bytes_eq-Decides (take (length w) t) w).0 e)
 
-  pub is-fixed : (n : CheckedLength) → r ≡ starts (ascii "bytes") t → r ≡ true → (length t ≡ 5 → ⊥) → length_of n ≡ length_behind (take (length t - 5) (drop 5 t)) → to_result s ≡ of_length (length_of n) → to_result s ≡ elementary_of t
-  is-fixed n e f z g h =
-      let g' : length_of n ≡ length_behind (drop 5 t) = rw part-rest at g in
-      let q = split (ascii "bytes") t (sym e ∙ f) in
-      h ∙ ap of_length g' ∙ go (drop 5 t) (λ y. z (omega (arith, ap length q, y))) ∙ ap elementary_of (sym q)
+not-begun : (w t : List ℕ) → pointwise nat_eq (take (length w) t) w ≡ false → starts w t ≡ false
+not-begun w t e = same_unequal w (take (length w) t) (λ f. true≢false (sym ((bytes_eq-Decides (take (length w) t) w).1 (sym f)) ∙ e))
+
+not-word : (w t : List ℕ) → pointwise nat_eq (take (length w) t) w ≡ false → same w t ≡ false
+not-word w t e = same_unequal w t (λ f. true≢false (sym ((bytes_eq-Decides (take (length w) t) w).1 (rw (← f) (take_all (length w) w (omega arith)))) ∙ e))
+
+-- a word and the number behind it
+module _ (t : List ℕ) where
+  pub is-uint : pointwise nat_eq (take 4 t) (ascii "uint") ≡ true → to_result (ok_or (option_map base.Uint (width_behind (drop 4 t))) InvalidBitWidth) ≡ elementary_of t
+  unfolding to_result to_elementary elementary_of width_behind with_number
+  is-uint e = go (drop 4 t) ∙ ap elementary_of (sym (begun (ascii "uint") t e))
     where
-      go : (u : List ℕ) → (length u ≡ 0 → ⊥) → of_length (length_behind u) ≡ elementary_of (ascii "bytes" ++ u)
-      go [] y = absurd (y refl)
-      go (c ∷ u) y = bytes-text c u
+      go : (u : List ℕ) → to_result (ok_or (option_map base.Uint (width_behind u)) InvalidBitWidth) ≡ elementary_of (ascii "uint" ++ u)
+      go [] = refl
+      go (c ∷ u) = width-read base.Uint uint (λ n. refl) (number 256 (c ∷ u))
 
-module _ (t : List ℕ) (r : Bool) where
-  pub is-bytes : r ≡ starts (ascii "bytes") t → r ≡ true → length t ≡ 5 → to_result (spelled.Kind base.Bytes) ≡ elementary_of t
-  unfolding to_result to_elementary elementary_of
-  is-bytes e f z =
-      let q = split (ascii "bytes") t (sym e ∙ f) in
-      go (drop 5 t) (omega (arith, length-drop 5 t)) ∙ ap elementary_of (sym q)
+  pub is-int : pointwise nat_eq (take 3 t) (ascii "int") ≡ true → to_result (ok_or (option_map base.Int (width_behind (drop 3 t))) InvalidBitWidth) ≡ elementary_of t
+  unfolding to_result to_elementary elementary_of width_behind with_number
+  is-int e = go (drop 3 t) ∙ ap elementary_of (sym (begun (ascii "int") t e))
     where
-      go : (u : List ℕ) → length u ≡ 0 → ok bytes ≡ elementary_of (ascii "bytes" ++ u)
-      go [] y = refl
-      go (c ∷ u) y = absurd (omega arith)
+      go : (u : List ℕ) → to_result (ok_or (option_map base.Int (width_behind u)) InvalidBitWidth) ≡ elementary_of (ascii "int" ++ u)
+      go [] = refl
+      go (c ∷ u) = width-read base.Int int (λ n. refl) (number 256 (c ∷ u))
 
-  is_word_lem : (w : List ℕ) → r ≡ same w t → r ≡ true → w ≡ t
-  is_word_lem w e f = (same_equal w t).0 (sym e ∙ f)
+  pub is-fixed : pointwise nat_eq (take 5 t) (ascii "bytes") ≡ true → lookup words t ≡ None → to_result (ok_or (option_map base.FixedBytes (length_behind (drop 5 t))) InvalidByteLength) ≡ elementary_of t
+  unfolding elementary_of length_behind with_number
+  is-fixed e h = let f = begun (ascii "bytes") t e in
+      go (drop 5 t) (ap (lookup words) (sym f) ∙ h) ∙ ap elementary_of (sym f)
+    where
+      go : (u : List ℕ) → lookup words (ascii "bytes" ++ u) ≡ None → to_result (ok_or (option_map base.FixedBytes (length_behind u)) InvalidByteLength) ≡ elementary_of (ascii "bytes" ++ u)
+      go [] h = absurd (none-some bytes (sym h))
+      go (c ∷ u) h = length-read (number 32 (c ∷ u))
 
-  pub is_address : r ≡ same (ascii "address") t → r ≡ true → to_result (spelled.Kind base.Address) ≡ elementary_of t
-  unfolding to_result to_elementary elementary_of
-  is_address e f = ap elementary_of (is_word_lem (ascii "address") e f)
+-- a text that begins with neither `int` nor `uint`
+module _ (t : List ℕ) (u : pointwise nat_eq (take 4 t) (ascii "uint") ≡ false) (i : pointwise nat_eq (take 3 t) (ascii "int") ≡ false) where
+  other_words : lookup kind_words t ≡ lookup words t
+  other_words = rw (not-word (ascii "int") t i, not-word (ascii "uint") t u)
 
-  pub is_bool : r ≡ same (ascii "bool") t → r ≡ true → to_result (spelled.Kind base.Bool) ≡ elementary_of t
-  unfolding to_result to_elementary elementary_of
-  is_bool e f = ap elementary_of (is_word_lem (ascii "bool") e f)
+  pub is_word : (b : Base) → Some (to_elementary b) ≡ lookup words t → to_result (Ok b) ≡ elementary_of t
+  unfolding to_result elementary_of
+  is_word b e = rw (other_words, ← e)
 
-  pub is_string : r ≡ same (ascii "string") t → r ≡ true → to_result (spelled.Kind base.String) ≡ elementary_of t
-  unfolding to_result to_elementary elementary_of
-  is_string e f = ap elementary_of (is_word_lem (ascii "string") e f)
-
-  pub is-function : r ≡ same (ascii "function") t → r ≡ true → to_result (spelled.Kind base.Function) ≡ elementary_of t
-  unfolding to_result to_elementary elementary_of
-  is-function e f = ap elementary_of (is_word_lem (ascii "function") e f)
-
--- a text that does not begin with a word is not the word
-not-word : (w t : List ℕ) → starts w t ≡ false → same w t ≡ false
-not-word w t e = same_unequal w t (λ q. let h : starts w w ≡ false = rw (← q) at e in let g : starts w w ≡ true = rw (take_all (length w) w (omega arith)) (same_self w) in let z : ◌≡◌ {A = ℕ} 0 1 = cc in omega arith)
-
-pub is-unknown : (t : List ℕ) (u a b o g i f : Bool) → u ≡ starts (ascii "uint") t → u ≡ false → a ≡ same (ascii "address") t → a ≡ false
-    → b ≡ starts (ascii "bytes") t → b ≡ false → o ≡ same (ascii "bool") t → o ≡ false → g ≡ same (ascii "string") t → g ≡ false
-    → i ≡ starts (ascii "int") t → i ≡ false → f ≡ same (ascii "function") t → f ≡ false → to_result (spelled.Refused Unknown) ≡ elementary_of t
-unfolding to_result elementary_of with_number
-is-unknown t u a b o g i f eu fu ea fa eb fb eo fo eg fg ei fi ef ff =
-    rw (
-      not-word (ascii "int") t (sym ei ∙ fi),
-      not-word (ascii "uint") t (sym eu ∙ fu),
-      sym ea ∙ fa,
-      sym eo ∙ fo,
-      sym ef ∙ ff,
-      not-word (ascii "bytes") t (sym eb ∙ fb),
-      sym eg ∙ fg,
-      with_number,
-      sym ei ∙ fi,
-      sym eu ∙ fu,
-      sym eb ∙ fb,
-    )
-
-pub ruleset words = (is-uint, is-int, is-fixed, is-bytes, is_address, is_bool, is_string, is-function)
+  pub is-unknown : lookup words t ≡ None → pointwise nat_eq (take 5 t) (ascii "bytes") ≡ false → to_result (Err Unknown) ≡ elementary_of t
+  unfolding to_result elementary_of with_number
+  is-unknown e b = rw (other_words, e, with_number, not-begun (ascii "int") t i, not-begun (ascii "uint") t u, not-begun (ascii "bytes") t b)

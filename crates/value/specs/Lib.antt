@@ -1,3 +1,4 @@
 pub mod Elementary
 pub mod Peeling
 pub mod Run
+pub mod Suffix

@@ -1,47 +1,35 @@
 -- What the code finds of suffixes, by the definitions.
 -- Assumes nothing.
-use Rattle.std.specs.Prelude.{◌≡◌, List, ℕ, ◌+◌, ◌-◌, ◌≤◌, ◌<◌, length, take, drop, get_or}
-use Rattle.kinds.specs.Bytes.{lbracket, rbracket}
-use Rattle.kinds.specs.Kind.{sized, unsized}
+use Rattle.std.specs.Prelude.{◌≡◌, List, ℕ, ◌+◌, ◌*◌, ◌≤◌, ◌<◌, length, take, drop, Option, None, Some}
+use Rattle.kinds.specs.Bytes.{lbracket}
 use Rattle.model.specs.KindText.{Cut, cut, uncut, cut_last, Peeled as PeeledText, peeled, bare, peel}
-use Rattle.value.specs.declared.Place.{Place}
-use Rattle.value.specs.declared.Place.TheVariants.{At, Nowhere}
+use Rattle.model.specs.Record.{encode_suffix}
 use Rattle.value.specs.declared.Peeled.{Peeled}
-use Rattle.value.specs.declared.Peeled.TheVariants.{Sized, Unsized, Bare}
 
 -- a text cut at a place
-unfoldable pub cut_at : List ℕ → Place → Cut
-cut_at t (At q) = cut (take q t) (drop (q + 1) t)
-cut_at t Nowhere = uncut
+unfoldable pub cut_at : List ℕ → Option ℕ → Cut
+cut_at t (Some q) = cut (take q t) (drop (q + 1) t)
+cut_at t None = uncut
 
--- a place where a `[` stands
-abbrev pub Opens : List ℕ → Place → Type 0
-Opens t (At q) = (q < length t) × (get_or t q 0 ≡ lbracket)
-Opens t Nowhere = Unit {0}
+abbrev pub Inside : List ℕ → Option ℕ → Type 0
+Inside t (Some q) = q < length t
+Inside t None = Unit {0}
 
 -- the last `[`
-pub record LastIs (t : List ℕ) (r : Place) : Type 0 where
+pub record LastIs (t : List ℕ) (r : Option ℕ) : Type 0 where
   pub same : cut_at t r ≡ cut_last lbracket t
-  pub opens : Opens t r
-
--- the last `[` stands at q, and a `]` at the end
-pub record BracketAt (t : List ℕ) (q : ℕ) : Type 0 where
-  pub same : cut (take q t) (drop (q + 1) t) ≡ cut_last lbracket t
-  pub inside : q + 2 ≤ length t
-  pub shuts : get_or t (length t - 1) 0 ≡ rbracket
+  pub inside : Inside t r
 
 -- what the cases of a peeled text say
-unfoldable pub peel_of : List ℕ → Peeled → PeeledText
-peel_of t (Sized at n) = peeled (take at t) (sized n)
-peel_of t (Unsized at) = peeled (take at t) unsized
-peel_of t Bare = bare
+unfoldable pub peel_of : List ℕ → Option Peeled → PeeledText
+peel_of t (Some p) = peeled (take p.at t) p.suffix
+peel_of t None = bare
 
--- where the suffix begins
-abbrev pub Shorter : List ℕ → Peeled → Type 0
-Shorter t (Sized at n) = at + 3 ≤ length t
-Shorter t (Unsized at) = at + 2 ≤ length t
-Shorter t Bare = Unit {0}
+-- what is peeled off pays for the suffix's record, at 5 bytes for each byte of text
+abbrev pub Shorter : List ℕ → Option Peeled → Type 0
+Shorter t (Some p) = (p.at + 2 ≤ length t) × (length (encode_suffix 4 p.suffix) + 5 * p.at ≤ 5 * length t)
+Shorter t None = Unit {0}
 
-pub record PeelIs (t : List ℕ) (r : Peeled) : Type 0 where
+pub record PeelIs (t : List ℕ) (r : Option Peeled) : Type 0 where
   pub same : peel_of t r ≡ peel t
   pub shorter : Shorter t r

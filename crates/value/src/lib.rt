@@ -1,24 +1,35 @@
 // Kinds as `ValueKind::from_str` reads them, written as records.
 #![tactic(auto)]
 
-ghost use Rattle.std.specs.Prelude.{◌≡◌, ◌+◌, ◌≤◌, ◌<◌, length, drop};
-ghost use Rattle.model.specs.KindText.{elementary_of, peel};
-ghost use Rattle.value.specs.Peeling.{LastIs, BracketAt, PeelIs};
-ghost use Rattle.model.specs.Layout.{little_endian, record_of};
-ghost use Rattle.model.specs.Record.{encode_elementary};
+ghost use Rattle.std.specs.Prelude.{◌≡◌, ◌==◌, ◌+◌, ◌≤◌, ◌<◌, length, position, IfSome};
+ghost use Rattle.std.specs.Option.{option_map};
+ghost use Rattle.kinds.specs.Bytes.{rbracket};
+ghost use Rattle.model.specs.KindText.{inside, lookup, elementary_of};
+ghost use Rattle.model.specs.Layout.{record_of};
+ghost use Rattle.model.specs.Record.{encode_elementary, encode_suffix};
 ghost use Rattle.layout.specs.Buffer.{put};
-ghost use Rattle.model.specs.Text.{span, one};
-ghost use Rattle.value.specs.Run.{RunIs, not_shut, SuffixAt, SuffixPut, SuffixesAt, SuffixesPut, LeafAt, LeafPut};
-ghost use Rattle.sizes.specs.Checked.{width_of, length_of};
-ghost use Rattle.value.specs.Elementary.{to_elementary, to_result, width_behind, length_behind, of_width, of_length};
-ghost use Rattle.kinds.specs.Kind.{int as intKind, uint as uintKind};
+ghost use Rattle.value.specs.Elementary.{to_elementary, to_result, width_behind, length_behind, words, number_bytes};
+ghost use Rattle.value.specs.Peeling.{LastIs, PeelIs};
+ghost use Rattle.value.specs.Run.{RunIs, FirstIs, SuffixesAt, SuffixesPut, LeafAt, LeafPut};
 
-use model::Refusal;
-use sizes::{BitWidth, ByteLength, CheckedLength, CheckedWidth};
-use text::Maybe;
+use layout::{
+    ADDRESS, BOOL, BYTES, BYTES_N, FIELD_FRONT, FUNCTION_KIND, HEAD, INT, NUMBERED, OPEN, SIZED,
+    STRING, UINT,
+};
+use model::{Mark, Refusal};
+use sizes::{BitWidth, ByteLength};
+use std::marker::Model;
+
+// How long the record is of a suffix that has a length: its head, and 8 bytes.
+const SIZED_RECORD: usize = HEAD + 8;
+
+// "a width divisible by 8 from 8 to 256; `bytes` with a length from 1 to 32"
+const WIDEST: u32 = 256;
+
+const LONGEST: u64 = 32;
 
 // A kind that holds no kind.
-#[derive(Clone, Copy)]
+#[derive(Clone, Copy, Debug, PartialEq, Eq)]
 pub enum Base {
     Int(BitWidth),
     Uint(BitWidth),
@@ -30,335 +41,299 @@ pub enum Base {
     String,
 }
 
-// What a text without suffixes is read as.
-#[derive(Clone, Copy)]
-pub enum Spelled {
-    Kind(Base),
-    Refused(Refusal),
-}
-
 // The width behind `int` or `uint`: 256 where there is none, and quick where it is that.
-fn width_behind(t: &[u8]) -> CheckedWidth
-    ensures { width_of result ≡ width_behind t.now }
+#[tactic(auto, using(crate::proofs::Words::behind))]
+fn width_behind(t: &[u8]) -> Option<BitWidth>
+    ensures { result ≡ width_behind t.now }
 {
-    if t.len() == 0 {
-        return BitWidth::new(256);
+    if t.is_empty() || text::equal(b"256", t) {
+        return BitWidth::new(WIDEST);
     }
-    if text::equal(b"256", t) {
-        return BitWidth::new(256u32);
-    }
-    let n = text::number(256, t);
-    match n {
-        Maybe::Value(v) => BitWidth::new(v as u32),
-        Maybe::Absent => CheckedWidth::Invalid,
-    }
+    let width = text::number(WIDEST as u64, t)?;
+    BitWidth::new(width as u32)
 }
 
 // The length behind `bytes`.
-fn length_behind(t: &[u8]) -> CheckedLength
-    ensures { length_of result ≡ length_behind t.now }
+#[tactic(auto, unfolding(crate::specs::Elementary::length_behind))]
+fn length_behind(t: &[u8]) -> Option<ByteLength>
+    ensures { result ≡ length_behind t.now }
 {
-    let n = text::number(32, t);
-    match n {
-        Maybe::Value(v) => ByteLength::new(v as usize),
-        Maybe::Absent => CheckedLength::Invalid,
-    }
+    let len = text::number(LONGEST, t)?;
+    ByteLength::new(len as usize)
 }
 
-fn int(w: CheckedWidth) -> Spelled
-    ensures { to_result result ≡ of_width intKind (width_of w) }
+// The kind that a word is by itself, apart from `int` and `uint`.
+#[tactic(auto, unfolding(crate::specs::Elementary::to_elementary))]
+fn word(t: &[u8]) -> Option<Base>
+    ensures { option_map to_elementary result ≡ lookup words t.now }
 {
-    match w {
-        CheckedWidth::Valid(n) => Spelled::Kind(Base::Int(n)),
-        CheckedWidth::Invalid => Spelled::Refused(Refusal::InvalidBitWidth),
-    }
-}
-
-fn uint(w: CheckedWidth) -> Spelled
-    ensures { to_result result ≡ of_width uintKind (width_of w) }
-{
-    match w {
-        CheckedWidth::Valid(n) => Spelled::Kind(Base::Uint(n)),
-        CheckedWidth::Invalid => Spelled::Refused(Refusal::InvalidBitWidth),
-    }
-}
-
-fn fixed_bytes(n: CheckedLength) -> Spelled
-    ensures { to_result result ≡ of_length (length_of n) }
-{
-    match n {
-        CheckedLength::Valid(len) => Spelled::Kind(Base::FixedBytes(len)),
-        CheckedLength::Invalid => Spelled::Refused(Refusal::InvalidByteLength),
+    if text::equal(b"address", t) {
+        Some(Base::Address)
+    } else if text::equal(b"bool", t) {
+        Some(Base::Bool)
+    } else if text::equal(b"function", t) {
+        Some(Base::Function)
+    } else if text::equal(b"bytes", t) {
+        Some(Base::Bytes)
+    } else if text::equal(b"string", t) {
+        Some(Base::String)
+    } else {
+        None
     }
 }
 
 // A text without suffixes, as an elementary kind.
-fn elementary(t: &[u8]) -> Spelled
+fn elementary(t: &[u8]) -> Result<Base, Refusal>
     ensures { to_result result ≡ elementary_of t.now }
 {
-    if text::begins(b"uint", t) {
-        return uint(width_behind(&t[4..]));
+    if let Some(width) = t.strip_prefix(b"uint") {
+        return width_behind(width)
+            .map(Base::Uint)
+            .ok_or(Refusal::InvalidBitWidth);
     }
-    if text::equal(b"address", t) {
-        return Spelled::Kind(Base::Address);
+    if let Some(width) = t.strip_prefix(b"int") {
+        return width_behind(width)
+            .map(Base::Int)
+            .ok_or(Refusal::InvalidBitWidth);
     }
-    if text::begins(b"bytes", t) {
-        if t.len() == 5 {
-            return Spelled::Kind(Base::Bytes);
-        }
-        return fixed_bytes(length_behind(&t[5..]));
+    if let Some(base) = word(t) {
+        return Ok(base);
     }
-    if text::equal(b"bool", t) {
-        return Spelled::Kind(Base::Bool);
+    if let Some(len) = t.strip_prefix(b"bytes") {
+        return length_behind(len)
+            .map(Base::FixedBytes)
+            .ok_or(Refusal::InvalidByteLength);
     }
-    if text::equal(b"string", t) {
-        return Spelled::Kind(Base::String);
-    }
-    if text::begins(b"int", t) {
-        return int(width_behind(&t[3..]));
-    }
-    if text::equal(b"function", t) {
-        return Spelled::Kind(Base::Function);
-    }
-    Spelled::Refused(Refusal::Unknown)
+    Err(Refusal::Unknown)
 }
 
 // Suffixes.
 
-// A place that may be missing.
-#[derive(Clone, Copy)]
-pub enum Place {
-    At(usize),
-    Nowhere,
+// What makes a kind an array: a length, or none.
+#[derive(Clone, Copy, Debug, PartialEq, Eq)]
+pub struct Suffix {
+    size: Option<u64>,
 }
 
-// The last `[`: the search ends at its first hit from the right.
-fn last_bracket(t: &[u8]) -> Place
-    ensures { LastIs t.now result }
-{
-    let mut i = t.len();
-    loop {
-        if i == 0 {
-            break Place::Nowhere;
+impl Model for Suffix {
+    ghost use Rattle.kinds.specs.Kind.{Suffix as KindSuffix};
+    ghost use Rattle.value.specs.Suffix.{suffix_of, size_of, size-of_suffix};
+    ghost use Rattle.std.proofs.Common.{ap};
+
+    ghost Value = { KindSuffix };
+
+    ghost view = { λ s. suffix_of s.size };
+
+    ghost inverse = { λ s. record { size = size_of s } };
+
+    ghost inverse_ok = { λ a h. ap (λ o. record { size = o }) (size-of_suffix a.size) };
+}
+
+impl Suffix {
+    // What stands between `[` and `]`: nothing, or a number.
+    pub fn inside(t: &[u8]) -> Option<Suffix>
+        ensures { result ≡ inside t.now }
+    {
+        if t.is_empty() {
+            return Some(Suffix { size: None });
         }
-        i -= 1;
-        if t[i] == 91 {
-            break Place::At(i);
+        let size = text::number(u64::MAX, t)?;
+        Some(Suffix { size: Some(size) })
+    }
+
+    // How many bytes its record takes.
+    pub fn record_length(&self) -> usize
+        ensures { result ≡ length (encode_suffix 4 self.now) }
+    {
+        match self.size {
+            Some(_) => SIZED_RECORD,
+            None => HEAD,
+        }
+    }
+
+    // Writes its record.
+    pub fn write(&self, out: &mut [u8], o: usize)
+        requires { o + length (encode_suffix 4 self.now) ≤ length out.old }
+        ensures { out.new ≡ put o (encode_suffix 4 self.now) out.old }
+    {
+        match self.size {
+            Some(size) => {
+                layout::header(out, o, SIZED_RECORD, SIZED as u16);
+                layout::put8(out, o + HEAD, size);
+            }
+            None => layout::header(out, o, HEAD, OPEN as u16),
         }
     }
 }
 
 // A suffix at the end of a text, and the place of its `[`.
-#[derive(Clone, Copy)]
-pub enum Peeled {
-    Sized { at: usize, n: u64 },
-    Unsized { at: usize },
-    Bare,
+#[derive(Clone, Copy, Debug, PartialEq, Eq)]
+struct Peeled {
+    at: usize,
+    suffix: Suffix,
 }
 
-// The suffix from the `[` at q to the `]` at the end.
-fn bracket(t: &[u8], q: usize) -> Peeled
-    requires { BracketAt t.now q }
-    ensures { PeelIs t.now result }
+// The last `[`: the search ends at its first hit from the right.
+fn last_bracket(t: &[u8]) -> Option<usize>
+    ensures { LastIs t.now result }
 {
-    let e = t.len() - 1;
-    let b = q + 1;
-    if b == e {
-        return Peeled::Unsized { at: q };
-    }
-    let m = text::number(18446744073709551615, &t[b..e]);
-    match m {
-        Maybe::Value(n) => Peeled::Sized { at: q, n },
-        Maybe::Absent => Peeled::Bare,
+    let mut before = t;
+    loop {
+        let (last, rest) = before.split_last()?;
+        if *last == b'[' {
+            break Some(rest.len());
+        }
+        before = rest;
     }
 }
 
 // "a rest followed by `[]`; a rest followed by `[`, number, `]` (last `[`)"
-fn peel(t: &[u8]) -> Peeled
+fn peel(t: &[u8]) -> Option<Peeled>
     ensures { PeelIs t.now result }
 {
-    if t.len() == 0 {
-        return Peeled::Bare;
-    }
-    let e = t.len() - 1;
-    if t[e] == 93 {
-        let p = last_bracket(t);
-        return match p {
-            Place::At(q) => bracket(t, q),
-            Place::Nowhere => Peeled::Bare,
-        };
-    }
-    Peeled::Bare
+    let before = t.strip_suffix(b"]")?;
+    let at = last_bracket(before)?;
+    let suffix = Suffix::inside(&before[at + 1..])?;
+    Some(Peeled { at, suffix })
 }
 
-// The kind of a run: its base, where its suffixes begin, and how many bytes their records take.
-#[derive(Clone, Copy)]
-pub enum RunKind {
-    Read { base: Base, from: usize, len: usize },
-    Refused(Refusal),
+// The kind of a run: its base, the text of its suffixes, and how many bytes their records take.
+#[derive(Clone, Copy, Debug, PartialEq, Eq)]
+pub struct Run<'a> {
+    pub base: Base,
+    pub suffixes: &'a [u8],
+    pub len: usize,
 }
 
 // `ValueKind::from_str`, for texts that do not begin with `(`.
-pub fn from_str(t: &[u8]) -> RunKind
+pub fn from_str(t: &[u8]) -> Result<Run<'_>, Refusal>
     requires { length t.now ≤ 4096 }
     ensures { RunIs t.now result }
 {
     let mut end = t.len();
-    let mut len: usize = 0;
-    loop {
-        let p = peel(&t[..end]);
-        match p {
-            Peeled::Sized { at, n: _ } => {
-                end = at;
-                len += 14;
-            }
-            Peeled::Unsized { at } => {
-                end = at;
-                len += 6;
-            }
-            Peeled::Bare => {
-                break;
-            }
-        }
+    let mut len = 0;
+    while let Some(peeled) = peel(&t[..end]) {
+        end = peeled.at;
+        len += peeled.suffix.record_length();
     }
-    let k = elementary(&t[..end]);
-    match k {
-        Spelled::Kind(base) => RunKind::Read {
-            base,
-            from: end,
-            len,
-        },
-        Spelled::Refused(w) => RunKind::Refused(w),
-    }
+    let base = elementary(&t[..end])?;
+    Ok(Run {
+        base,
+        suffixes: &t[end..],
+        len,
+    })
 }
 
 // Kinds written.
 
-// How many bytes the record of a base takes.
-pub fn base_length(b: Base) -> usize
-    ensures { (result ≡ length (encode_elementary 4 (to_elementary b))) × (result ≤ 8) }
-{
-    match b {
-        Base::Int(_) => 8,
-        Base::Uint(_) => 8,
-        Base::Address => 6,
-        Base::Bool => 6,
-        Base::FixedBytes(_) => 8,
-        Base::Function => 6,
-        Base::Bytes => 6,
-        Base::String => 6,
-    }
-}
-
-// Writes a record of a kind with a number of two bytes.
-fn numbered(out: &mut [u8], o: usize, k: u16, n: usize)
-    requires { o + 8 ≤ length out.old }
-    ensures { out.new ≡ put o (record_of 4 k (little_endian 2 n)) out.old }
-{
-    layout::header(out, o, 8, k);
-    layout::put2(out, o + 6, n);
-}
-
-// Writes the record of a base.
-fn write_base(out: &mut [u8], o: usize, b: Base)
-    requires { o + length (encode_elementary 4 (to_elementary b)) ≤ length out.old }
-    ensures { out.new ≡ put o (encode_elementary 4 (to_elementary b)) out.old }
-{
-    match b {
-        Base::Int(w) => numbered(out, o, 1, w.get() as usize),
-        Base::Uint(w) => numbered(out, o, 2, w.get() as usize),
-        Base::Address => layout::header(out, o, 6, 3),
-        Base::Bool => layout::header(out, o, 6, 4),
-        Base::FixedBytes(n) => numbered(out, o, 5, n.get()),
-        Base::Function => layout::header(out, o, 6, 6),
-        Base::Bytes => layout::header(out, o, 6, 7),
-        Base::String => layout::header(out, o, 6, 8),
-    }
-}
-
-// The place of the next `]` from a place on, or the end.
-fn next_shut(t: &[u8], from: usize) -> usize
-    requires { from ≤ length t.now }
-    ensures { (result ≡ from + span (one not_shut) (drop from t.now)) × (result ≤ length t.now) }
-{
-    let mut i = from;
-    while i < t.len() {
-        if t[i] == 93 {
-            return i;
+impl Base {
+    // The kind of its record, and the number in it, if there is one.
+    #[tactic(auto, unfolding(model::specs::Record::encode_elementary, crate::specs::Elementary::to_elementary, crate::specs::Elementary::number_bytes))]
+    fn parts(&self) -> (u16, Option<usize>)
+        ensures { encode_elementary 4 (to_elementary self.now) ≡ record_of 4 result.0 (number_bytes result.1) }
+    {
+        match self {
+            Base::Int(width) => (INT as u16, Some(width.get() as usize)),
+            Base::Uint(width) => (UINT as u16, Some(width.get() as usize)),
+            Base::Address => (ADDRESS as u16, None),
+            Base::Bool => (BOOL as u16, None),
+            Base::FixedBytes(len) => (BYTES_N as u16, Some(len.get())),
+            Base::Function => (FUNCTION_KIND as u16, None),
+            Base::Bytes => (BYTES as u16, None),
+            Base::String => (STRING as u16, None),
         }
-        i += 1;
     }
-    i
-}
 
-// A place in the text, and one in the buffer.
-#[derive(Clone, Copy)]
-pub struct Cursor {
-    pub at: usize,
-    pub o: usize,
-}
-
-// Writes the record of the suffix from the `[` at `at`.
-fn write_suffix(t: &[u8], at: usize, out: &mut [u8], o: usize) -> Cursor
-    requires { SuffixAt t.now at o out.old }
-    ensures { SuffixPut t.now at o out.old out.new result.at result.o }
-{
-    let b = at + 1;
-    let e = next_shut(t, b);
-    if e == b {
-        layout::header(out, o, 6, 11);
-        return Cursor {
-            at: e + 1,
-            o: o + 6,
-        };
+    // How many bytes its record takes.
+    pub fn record_length(&self) -> usize
+        ensures { (result ≡ length (encode_elementary 4 (to_elementary self.now))) × (result ≤ 8) }
+    {
+        match self.parts() {
+            (_, Some(_)) => NUMBERED,
+            (_, None) => HEAD,
+        }
     }
-    let m = text::number(18446744073709551615, &t[b..e]);
-    match m {
-        Maybe::Value(v) => {
-            layout::header(out, o, 14, 10);
-            layout::put8(out, o + 6, v);
-            Cursor {
-                at: e + 1,
-                o: o + 14,
+
+    // Writes its record.
+    fn write(&self, out: &mut [u8], o: usize)
+        requires { o + length (encode_elementary 4 (to_elementary self.now)) ≤ length out.old }
+        ensures { out.new ≡ put o (encode_elementary 4 (to_elementary self.now)) out.old }
+    {
+        match self.parts() {
+            (kind, Some(number)) => {
+                layout::header(out, o, NUMBERED, kind);
+                layout::put2(out, o + HEAD, number);
             }
+            (kind, None) => layout::header(out, o, HEAD, kind),
         }
-        Maybe::Absent => Cursor { at: e + 1, o },
     }
 }
 
-// Writes the records of the suffixes from a place on.
-fn write_suffixes(t: &[u8], from: usize, out: &mut [u8], o: usize)
-    requires { SuffixesAt t.now from o out.old }
-    ensures { SuffixesPut t.now from o out.old out.new }
+fn next_shut(t: &[u8]) -> Option<usize>
+    ensures { result ≡ position (λ c. c == rbracket) t.now }
 {
-    let mut p = from;
-    let mut q = o;
-    while p < t.len() {
-        let c = write_suffix(t, p, out, q);
-        p = c.at;
-        q = c.o;
+    t.iter().position(|c| *c == b']')
+}
+
+// A suffix that a text begins with, and the text behind it.
+#[derive(Clone, Copy, Debug, PartialEq, Eq)]
+struct First<'a> {
+    suffix: Suffix,
+    behind: &'a [u8],
+}
+
+fn first_suffix(t: &[u8]) -> Option<First<'_>>
+    ensures first { FirstIs t.now result }
+    ensures shorter { IfSome result (λ first. length first.behind.now < length t.now) }
+{
+    let open = t.strip_prefix(b"[")?;
+    let end = next_shut(open)?;
+    let suffix = Suffix::inside(&open[..end])?;
+    Some(First {
+        suffix,
+        behind: &open[end + 1..],
+    })
+}
+
+// Writes the records of the suffixes that a text is.
+fn write_suffixes(t: &[u8], out: &mut [u8], o: usize)
+    requires { SuffixesAt t.now o out.old }
+    ensures { SuffixesPut t.now o out.old out.new }
+{
+    let mut left = t;
+    let mut end = o;
+    while let Some(first) = first_suffix(left) {
+        first.suffix.write(out, end);
+        end += first.suffix.record_length();
+        left = first.behind;
     }
 }
 
-// Writes the record of a field of an elementary kind: its mark, its name, its base, and its suffixes from a place of the text on, whose
-// records take len bytes.
-pub fn write_leaf(
-    t: &[u8],
-    base: Base,
-    from: usize,
-    len: usize,
-    mark: usize,
-    name: &[u8],
-    out: &mut [u8],
-    o: usize,
-)
-    requires { LeafAt t.now base from len name.now o out.old }
-    ensures { LeafPut t.now base from mark name.now o out.old out.new }
-{
-    let m = name.len();
-    let k = base_length(base);
-    layout::front(out, o, mark, m, k + len);
-    layout::copy(out, o + 14, name);
-    write_base(out, o + 14 + m, base);
-    write_suffixes(t, from, out, o + 14 + m + k);
+impl Run<'_> {
+    // How many bytes the record of a field of this kind takes.
+    pub fn field_length(&self, name: &[u8]) -> usize
+        requires { length name.now + self.now.len ≤ 65536 }
+        ensures { result ≡ 14 + length name.now + length (encode_elementary 4 (to_elementary self.now.base)) + self.now.len }
+    {
+        FIELD_FRONT + name.len() + self.base.record_length() + self.len
+    }
+
+    // Writes the record of a field of this kind.
+    pub fn write_field(&self, mark: Mark, name: &[u8], out: &mut [u8])
+        requires { LeafAt self.now name.now out.old }
+        ensures { LeafPut self.now mark name.now out.old out.new }
+    {
+        let kind_at = FIELD_FRONT + name.len();
+        let base_length = self.base.record_length();
+        layout::front(
+            out,
+            0,
+            usize::from(mark),
+            name.len(),
+            base_length + self.len,
+        );
+        layout::copy(out, FIELD_FRONT, name);
+        self.base.write(out, kind_at);
+        write_suffixes(self.suffixes, out, kind_at + base_length);
+    }
 }

@@ -3,7 +3,7 @@
 use mathlib.Core.Path.{◌≡◌, sym, ap}
 use mathlib.Core.Bool.{Bool, true, false, and-false}
 use mathlib.Core.List.{List, [], ◌∷◌}
-use mathlib.Core.Option.{some}
+use Rattle.std.specs.Prelude.{Some}
 use Prim.Native.Nat.{ℕ, zero, suc, ◌+◌, ◌-◌, ◌/◌, ◌%◌, ◌≤◌, ◌<◌}
 use native.Mathlib.Nat.{sub-zero}
 use native.Mathlib.Numerals.{add-one}
@@ -129,7 +129,7 @@ module _ (d : List ℕ) (at : ℕ) (here : at ≤ length d) where
     Padded t = t ≡ all_are 0 (take (at + 32 + m - (at + 32 + n)) (drop (at + 32 + n) d))
 
     module _ (g : 32 ≤ length d - at) (h : m ≤ length d - (at + 32)) (t : Bool) (k : Padded t) where
-      string_is : string_at d at ≡ when t (some (at + 32 + m))
+      string_is : string_at d at ≡ when t (Some (at + 32 + m))
       unfolding string_at filled
       string_is =
           let size : at + 32 + m - (at + 32 + n) ≡ whole_words n - n = omega arith in

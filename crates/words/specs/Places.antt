@@ -1,7 +1,6 @@
 -- Numbers and places, as the code tells them.
 -- Assumes nothing.
-use Rattle.std.specs.Prelude.{true, false, List, ℕ, ◌+◌, ltb, length}
-use Rattle.std.proofs.Math.Option.{Option, none, some}
+use Rattle.std.specs.Prelude.{true, false, List, ℕ, ◌+◌, ltb, length, Option, None, Some}
 
 -- 65,537 stands for every number above 65,536
 unfoldable pub capped : ℕ → ℕ
@@ -9,5 +8,5 @@ capped n = elim (ltb 65536 n) [ true ↦ 65537 | false ↦ n ]
 
 -- where something in the data ends: a place behind them if it is not as the encoder sets it
 abbrev pub place_or : List ℕ → Option ℕ → ℕ
-place_or d none = length d + 1
-place_or d (some e) = e
+place_or d None = length d + 1
+place_or d (Some e) = e

@@ -1,6 +1,5 @@
 use native.Mathlib.Omega.{arith}
-use Rattle.sizes.proofs.Checks.{length-there, length-small, no_length}
-use Rattle.abi.proofs.Leaves.{number-long, number-room, number-wrote, number-fails}
+use Rattle.abi.proofs.Leaves.{number-long, number-room, number-wrote, number-fails, checked-there, not_checked, length_under}
 use borrow.Author.Rules.{rules}
 use Rattle.abi.proofs.write_byte_length.Goals as goal
 
@@ -8,10 +7,10 @@ pub get2-requires : goal.get2-requires
 get2-requires c = omega (arith, number-long _ _ _ _ c.requires)
 
 pub write_small-requires : goal.write_small-requires
-write_small-requires c = search (rules, number-room, length-there, length-small)
+write_small-requires c = search (rules, number-room, checked-there, length_under)
 
-pub returns-in-Valid : goal.returns-in-Valid
-returns-in-Valid c = search (rules, number-wrote, length-there)
+pub returns-in-Some : goal.returns-in-Some
+returns-in-Some c = search (rules, number-wrote, checked-there)
 
-pub returns-in-Invalid : goal.returns-in-Invalid
-returns-in-Invalid c = search (rules, number-fails, no_length)
+pub returns-in-None : goal.returns-in-None
+returns-in-None c = search (rules, number-fails, not_checked)

@@ -1,10 +1,9 @@
-use Prim.Native.Nat.{◌-◌}
-use lib.ListN.{length}
+use Rattle.std.proofs.Common.{◌-◌, length}
 use Rattle.fields.proofs.Growing.{Growing}
 use Rattle.fields.proofs.suffixes.Given as goal
 
-abbrev pub invariant-loop-n : goal.invariant-loop-n
-invariant-loop-n l = Growing l.s l.at l.o l.initial.out l.p l.len l.out
+abbrev pub invariant-loop-bracket : goal.invariant-loop-bracket
+invariant-loop-bracket l = Growing l.s l.at l.out l.next l.len
 
-abbrev pub decreases-loop-n : goal.decreases-loop-n
-decreases-loop-n l = length l.s - l.p
+abbrev pub decreases-loop-bracket : goal.decreases-loop-bracket
+decreases-loop-bracket l = length l.s - l.next

@@ -4,7 +4,7 @@ use mathlib.Core.Path.{refl}
 use Rattle.geusomin.proofs.copied.Goals as goal
 
 pub returns-then-text-length-clause-says : goal.returns-then-text-length-clause-says
-returns-then-text-length-clause-says c = (ends-full _ _ _ _ refl refl (omega arith)).0
+returns-then-text-length-clause-says c = (ends-full _ _ _ _ (rw c.into.ensures refl) refl (omega arith)).0
 
 pub returns-then-text-length-clause-left : goal.returns-then-text-length-clause-left
 returns-then-text-length-clause-left c = (ends-full _ _ _ _ refl refl (omega arith)).1

@@ -1,9 +1,5 @@
-use Rattle.kind_call.proofs.Scanning.{crowding}
-use borrow.Author.Rules.{rules}
+use Rattle.kind_call.proofs.Scanning.{so_end}
 use Rattle.kind_call.proofs.crowded.Goals as goal
 
-pub returns-in-Over : goal.returns-in-Over
-returns-in-Over c = search (rules, crowding)
-
 pub returns : goal.returns
-returns c = search (rules, crowding)
+returns c = so_end _ _ _ c.loop-i.invariant c.loop-i-test.false

@@ -1,6 +1,6 @@
-use Rattle.layout.proofs.Puts.{puts}
-use borrow.Author.Rules.{rules}
+use Rattle.std.proofs.Common.{arith}
+use Rattle.layout.proofs.Copies.{part_below}
 use Rattle.layout.proofs.get2.Goals as goal
 
 pub returns : goal.returns
-returns c = search (rules, puts)
+returns c = (c.get.ensures, omega (arith, c.get.ensures, part_below 2 c.args.b.now c.args.at (λ k. omega (arith, c.type_inv.b k)) c.requires))

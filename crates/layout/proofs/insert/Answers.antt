@@ -1,9 +1,5 @@
-use Rattle.layout.proofs.Puts.{puts}
-use borrow.Author.Rules.{rules}
+use Rattle.layout.proofs.Puts.{insert_end}
 use Rattle.layout.proofs.insert.Goals as goal
 
-pub returns-then-part-eq0 : goal.returns-then-part-eq0
-returns-then-part-eq0 c = search (rules, puts)
-
 pub returns : goal.returns
-returns c = search (rules, puts)
+returns c = insert_end _ _ _ c.args.at c.args.end c.args.part.now c.requires.0 c.requires.1 c.copy_within.ensures.after c.copy.ensures

@@ -1,12 +1,11 @@
-use Rattle.parser.proofs.Bodies.{bodies}
-use borrow.Author.Rules.{rules}
+use Rattle.parser.proofs.Wholes.{whole-exit, unopened, keyword-within, exec-body, room_behind}
 use Rattle.parser.proofs.exec.Goals as goal
 
-pub returns-in-Got : goal.returns-in-Got
-returns-in-Got c = search (rules, bodies)
+pub returns-in_err-at : goal.returns-in_err-at
+returns-in_err-at c = whole-exit _ _ _ _ c.from_residual.ensures.1 (unopened _ _ _ c.keyword.ensures _ c.in_err-at.was)
 
-pub returns-in-Bad : goal.returns-in-Bad
-returns-in-Bad c = search (rules, bodies)
+pub body-requires : goal.body-requires
+body-requires c = room_behind _ _ _ c.requires (keyword-within _ _ _ c.keyword.ensures _ c.in_ok-at.was)
 
-pub returns-in-Deep : goal.returns-in-Deep
-returns-in-Deep c = search (rules, bodies)
+pub returns : goal.returns
+returns c = exec-body _ _ _ c.keyword.ensures _ c.in_ok-at.was _ _ c.body.ensures

@@ -1,15 +1,8 @@
-use Rattle.parser.proofs.Bodies.{bodies}
-use borrow.Author.Rules.{rules}
+use Rattle.parser.proofs.Wholes.{front-numbered, front-bare}
 use Rattle.parser.proofs.front.Goals as goal
 
-pub returns-in-Function : goal.returns-in-Function
-returns-in-Function c = search (rules, bodies)
+pub returns-then-ne : goal.returns-then-ne
+returns-then-ne c = front-numbered _ _ _ _ _ _ _ c.code.ensures.0 c.header.ensures c.ne.ensures _ c.requires c.put2.ensures c.if-ne.true
 
-pub returns-in-Constructor : goal.returns-in-Constructor
-returns-in-Constructor c = search (rules, bodies)
-
-pub returns-in-Event : goal.returns-in-Event
-returns-in-Event c = search (rules, bodies)
-
-pub returns-in-Error : goal.returns-in-Error
-returns-in-Error c = search (rules, bodies)
+pub returns-else-ne : goal.returns-else-ne
+returns-else-ne c = front-bare _ _ _ _ _ _ _ c.code.ensures.0 c.header.ensures c.ne.ensures c.if-ne.false

@@ -1,9 +1,9 @@
-use Rattle.parser.proofs.Parts.{parts}
-use borrow.Author.Rules.{rules}
+use Rattle.std.proofs.Common.{rules}
+use Rattle.parser.proofs.Wording.{wording}
 use Rattle.parser.proofs.ident.Goals as goal
 
-pub returns-then-a-e : goal.returns-then-a-e
-returns-then-a-e c = search (rules, parts)
+pub returns-then-is_empty : goal.returns-then-is_empty
+returns-then-is_empty c = search (rules, wording)
 
 pub returns : goal.returns
-returns c = search (rules, parts)
+returns c = search (rules, wording)

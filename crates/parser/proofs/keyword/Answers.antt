@@ -1,9 +1,9 @@
-use Rattle.parser.proofs.Parts.{parts}
-use borrow.Author.Rules.{rules}
+use Rattle.std.proofs.Common.{rules}
+use Rattle.parser.proofs.Wording.{wording}
 use Rattle.parser.proofs.keyword.Goals as goal
 
-pub returns-then-is_keyword : goal.returns-then-is_keyword
-returns-then-is_keyword c = search (rules, parts)
+pub returns-then-equal : goal.returns-then-equal
+returns-then-equal c = search (rules, wording)
 
 pub returns : goal.returns
-returns c = search (rules, parts)
+returns c = search (rules, wording)

@@ -1,15 +1,8 @@
-use Rattle.parser.proofs.Bodies.{bodies}
-use borrow.Author.Rules.{rules}
+use Rattle.parser.proofs.Wholes.{name-ident, name-none}
 use Rattle.parser.proofs.name.Goals as goal
 
-pub returns-in-Function : goal.returns-in-Function
-returns-in-Function c = search (rules, bodies)
-
 pub returns-in-Constructor : goal.returns-in-Constructor
-returns-in-Constructor c = search (rules, bodies)
+returns-in-Constructor c = name-none _ _ _ _ c.requires.inside c.in-Constructor.is
 
-pub returns-in-Event : goal.returns-in-Event
-returns-in-Event c = search (rules, bodies)
-
-pub returns-in-Error : goal.returns-in-Error
-returns-in-Error c = search (rules, bodies)
+pub returns-in-Function : goal.returns-in-Function
+returns-in-Function c = name-ident _ _ _ _ _ c.in-Function.is c.ident.ensures

@@ -1,9 +1,9 @@
-use Rattle.parser.proofs.Bodies.{bodies}
-use borrow.Author.Rules.{rules}
+use Rattle.std.proofs.Common.{rules}
+use Rattle.parser.proofs.Wording.{wording}
 use Rattle.parser.proofs.option.Goals as goal
 
-pub returns-then-m-eq-NO_WORD : goal.returns-then-m-eq-NO_WORD
-returns-then-m-eq-NO_WORD c = search (rules, bodies)
+pub returns-in-Some : goal.returns-in-Some
+returns-in-Some c = search (rules, wording)
 
-pub returns : goal.returns
-returns c = search (rules, bodies)
+pub returns-in-None : goal.returns-in-None
+returns-in-None c = search (rules, wording)

@@ -1,9 +1,9 @@
-use Rattle.parser.proofs.Parts.{parts}
-use borrow.Author.Rules.{rules}
+use Rattle.std.proofs.Common.{rules}
+use Rattle.parser.proofs.Listing.{listing}
 use Rattle.parser.proofs.returns.Goals as goal
 
 pub returns-then-equal : goal.returns-then-equal
-returns-then-equal c = search (rules, parts)
+returns-then-equal c = search (rules, listing)
 
 pub returns : goal.returns
-returns c = search (rules, parts)
+returns c = search (rules, listing)

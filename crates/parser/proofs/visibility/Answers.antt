@@ -1,12 +1,11 @@
-use Rattle.parser.proofs.Modifying.{modifying}
-use borrow.Author.Rules.{rules}
+use Rattle.parser.proofs.Modifying.{visible-unbegun, visible-there, visible-other}
 use Rattle.parser.proofs.visibility.Goals as goal
 
-pub returns-then-is_visibility : goal.returns-then-is_visibility
-returns-then-is_visibility c = search (rules, modifying)
+pub returns-in-Some : goal.returns-in-Some
+returns-in-Some c = visible-there _ _ _ _ c.requires c.in-Some.ensures _ c.is_visibility.ensures c.if-is_visibility.true
 
-pub returns-then-begins_modifier : goal.returns-then-begins_modifier
-returns-then-begins_modifier c = search (rules, modifying)
+pub returns-in_default : goal.returns-in_default
+returns-in_default c = visible-other _ _ _ _ c.requires c.in-Some.ensures _ c.is_visibility.ensures c.if-is_visibility.false
 
-pub returns : goal.returns
-returns c = search (rules, modifying)
+pub returns-in_default-2 : goal.returns-in_default-2
+returns-in_default-2 c = visible-unbegun _ _ c.requires (rw c.in_default.is at c.modifier.ensures)

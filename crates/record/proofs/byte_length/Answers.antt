@@ -6,11 +6,11 @@ use Rattle.record.proofs.byte_length.Goals as goal
 pub small_length-requires : goal.small_length-requires
 small_length-requires c = search (rules, length-small)
 
-pub returns-in-Valid : goal.returns-in-Valid
-returns-in-Valid c = search (rules, lengths)
+pub returns-in-Some : goal.returns-in-Some
+returns-in-Some c = search (rules, lengths)
 
-pub returns-in-Invalid : goal.returns-in-Invalid
-returns-in-Invalid c = search (rules, lengths)
+pub returns-in-None : goal.returns-in-None
+returns-in-None c = search (rules, lengths)
 
 pub returns : goal.returns
 returns c = search (rules, lengths)

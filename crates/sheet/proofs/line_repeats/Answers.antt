@@ -8,16 +8,16 @@ use Rattle.sheet.proofs.Befores.{read_fits, two-asked, two-told, two-never}
 use Rattle.sheet.proofs.line_repeats.Goals as goal
 
 pub slice_bounds-other-end : goal.slice_bounds-other-end
-slice_bounds-other-end c = let h = read_fits _ _ _ c.parse_declaration-r.ensures.says _ c.in-Accepted.is in omega (arith, h, c.parse_declaration-r.auto.record)
+slice_bounds-other-end c = let h = read_fits _ _ _ c.read-r.ensures.says _ c.in-Ok.is in omega (arith, h, c.read-r.auto.record)
 
 pub slice_bounds-repeats-end : goal.slice_bounds-repeats-end
-slice_bounds-repeats-end c = let h = read_fits _ _ _ c.parse_declaration-r.ensures.says _ c.in-Accepted.is in let g : c.in-Accepted.length ≤ length c.parse_declaration-r.new.record = omega (arith, h, c.parse_declaration-r.auto.record) in sym (length-take-le _ _ g)
+slice_bounds-repeats-end c = let h = read_fits _ _ _ c.read-r.ensures.says _ c.in-Ok.is in let g : c.in-Ok.length ≤ length c.read-r.new.record = omega (arith, h, c.read-r.auto.record) in sym (length-take-le _ _ g)
 
 pub repeats-requires : goal.repeats-requires
-repeats-requires c = two-asked _ _ _ _ _ _ c.line_end-e.ensures _ c.parse_declaration-r.ensures.says c.parse_declaration-r.ensures.left _ c.in-Accepted.is c.requires
+repeats-requires c = two-asked _ _ _ _ _ _ c.line_end-e.ensures _ c.read-r.ensures.says c.read-r.ensures.left _ c.in-Ok.is c.requires
 
-pub returns-in-Accepted : goal.returns-in-Accepted
-returns-in-Accepted c = two-told _ _ _ _ _ _ c.line_end-e.ensures _ c.parse_declaration-r.ensures.says c.parse_declaration-r.ensures.left _ c.in-Accepted.is _ c.repeats.ensures
+pub returns-in-Ok : goal.returns-in-Ok
+returns-in-Ok c = two-told _ _ _ _ _ _ c.line_end-e.ensures _ c.read-r.ensures.says c.read-r.ensures.left _ c.in-Ok.is _ c.repeats.ensures
 
-pub returns-in-Refused : goal.returns-in-Refused
-returns-in-Refused c = two-never _ _ _ _ _ c.line_end-e.ensures _ c.parse_declaration-r.ensures.says _ _ c.in-Refused.is (search rules)
+pub returns-in-Err : goal.returns-in-Err
+returns-in-Err c = two-never _ _ _ _ _ c.line_end-e.ensures _ c.read-r.ensures.says _ _ c.in-Err.is (search rules)

@@ -6,10 +6,10 @@ pub returns-then-skip-l : goal.returns-then-skip-l
 returns-then-skip-l c = line-blank _ _ _ _ c.skip.ensures c.if-skip-l.true c.requires
 
 pub overflow_add-result : goal.overflow_add-result
-overflow_add-result c = record { fits = omega (arith, line-fits _ c.args.out.now c.args.p _ _ c.requires c.parse_declaration-r.ensures.says c.in-Accepted.is) }
+overflow_add-result c = record { fits = omega (arith, line-fits _ c.args.out.now c.args.p _ _ c.requires c.read-r.ensures.says c.in-Ok.is) }
 
-pub returns-in-Accepted : goal.returns-in-Accepted
-returns-in-Accepted c = line_read _ _ _ _ c.requires _ c.skip.ensures c.if-skip-l.false _ c.parse_declaration-r.ensures.says c.parse_declaration-r.ensures.left _ c.in-Accepted.is
+pub returns-in-Ok : goal.returns-in-Ok
+returns-in-Ok c = line_read _ _ _ _ c.requires _ c.skip.ensures c.if-skip-l.false _ c.read-r.ensures.says c.read-r.ensures.left _ c.in-Ok.is
 
-pub returns-in-Refused : goal.returns-in-Refused
-returns-in-Refused c = line_refused _ _ _ _ c.requires _ c.skip.ensures c.if-skip-l.false _ c.parse_declaration-r.ensures.says c.parse_declaration-r.ensures.left _ _ c.in-Refused.is
+pub returns-in-Err : goal.returns-in-Err
+returns-in-Err c = line_refused _ _ _ _ c.requires _ c.skip.ensures c.if-skip-l.false _ c.read-r.ensures.says c.read-r.ensures.left _ _ c.in-Err.is

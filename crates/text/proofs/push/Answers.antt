@@ -11,5 +11,5 @@ returns-then-limit-d-2 c = search (rules, numbers)
 pub returns-else-limit-d-2 : goal.returns-else-limit-d-2
 returns-else-limit-d-2 c = search (rules, numbers)
 
-pub returns-in-Absent : goal.returns-in-Absent
-returns-in-Absent c = search (rules, numbers)
+pub returns-in-None : goal.returns-in-None
+returns-in-None c = search (rules, numbers)

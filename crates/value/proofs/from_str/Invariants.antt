@@ -1,8 +1,8 @@
-use Rattle.value.proofs.Runs.{Peeling}
+use Rattle.value.proofs.Runs.{PeeledTo}
 use Rattle.value.proofs.from_str.Given as goal
 
-abbrev pub invariant-loop-at : goal.invariant-loop-at
-invariant-loop-at l = Peeling l.t l.end l.len
+abbrev pub invariant-loop-peeled : goal.invariant-loop-peeled
+invariant-loop-peeled l = PeeledTo l.t l.end l.len
 
-abbrev pub decreases-loop-at : goal.decreases-loop-at
-decreases-loop-at l = l.end
+abbrev pub decreases-loop-peeled : goal.decreases-loop-peeled
+decreases-loop-peeled l = l.end

@@ -1,15 +1,15 @@
-use Rattle.value.proofs.Peels.{peels}
-use borrow.Author.Rules.{rules}
+use Rattle.std.proofs.Common.{refl, sym}
+use Rattle.value.proofs.Peeling.{peel_open, peel-nowhere, peel-wrong, peels}
 use Rattle.value.proofs.peel.Goals as goal
 
-pub returns-then-t-eq0 : goal.returns-then-t-eq0
-returns-then-t-eq0 c = search (rules, peels)
+pub returns-in_err-before : goal.returns-in_err-before
+returns-in_err-before c = rw c.from_residual.ensures (peel_open _ c.in_err-before.ensures.cases)
 
-pub bracket-requires : goal.bracket-requires
-bracket-requires c = search (rules, peels)
+pub returns-in_err-at : goal.returns-in_err-at
+returns-in_err-at c = rw c.from_residual-in_err-at.ensures (peel-nowhere _ _ c.in_ok-before.ensures.cases.0 c.in_ok-before.ensures.cases.1 c.in_err-at.ensures)
 
-pub returns-in-Nowhere : goal.returns-in-Nowhere
-returns-in-Nowhere c = search (rules, peels)
+pub returns-in_err-suffix : goal.returns-in_err-suffix
+returns-in_err-suffix c = rw c.from_residual-in_err-suffix.ensures (peel-wrong _ _ c.in_ok-before.ensures.cases.0 c.in_ok-before.ensures.cases.1 _ _ c.in_ok-at.ensures refl (sym c.in_err-suffix.ensures))
 
 pub returns : goal.returns
-returns c = search (rules, peels)
+returns c = peels _ _ c.in_ok-before.ensures.cases.0 c.in_ok-before.ensures.cases.1 _ _ c.in_ok-at.ensures refl _ (sym c.in_ok-suffix.ensures)

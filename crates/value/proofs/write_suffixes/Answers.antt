@@ -1,18 +1,18 @@
-use borrow.Author.Rules.{rules}
-use Rattle.value.proofs.Suffixing.{brackets}
+use Rattle.std.proofs.Common.{arith}
+use Rattle.value.proofs.Suffixing.{writing_start, writing-room, writing-next, writing-end}
 use Rattle.value.proofs.write_suffixes.Goals as goal
 
-pub loop-p-init : goal.loop-p-init
-loop-p-init c = search (rules, brackets)
+pub loop-first-init : goal.loop-first-init
+loop-first-init c = writing_start _ _ _ c.requires
 
-pub write_suffix-c-requires : goal.write_suffix-c-requires
-write_suffix-c-requires c = search (rules, brackets)
+pub write-requires : goal.write-requires
+write-requires c = writing-room _ _ _ _ _ _ c.loop-first.invariant _ _ c.in-Some.ensures.first
 
-pub loop-p-smaller : goal.loop-p-smaller
-loop-p-smaller c = search (rules, brackets)
+pub overflow_add-end : goal.overflow_add-end
+overflow_add-end c = let r = writing-room _ _ _ _ _ _ c.loop-first.invariant _ _ c.in-Some.ensures.first in omega arith
 
-pub loop-p-preserved : goal.loop-p-preserved
-loop-p-preserved c = search (rules, brackets)
+pub loop-first-preserved : goal.loop-first-preserved
+loop-first-preserved c = writing-next _ _ _ _ _ _ c.loop-first.invariant _ _ c.in-Some.ensures.first _ _ c.write.ensures c.record_length-end.ensures
 
 pub returns : goal.returns
-returns c = search (rules, brackets)
+returns c = writing-end _ _ _ _ _ _ c.loop-first.invariant c.in_default.ensures.first

@@ -1,10 +1,9 @@
-use Prim.Native.Nat.{◌-◌}
-use lib.ListN.{length}
+use Rattle.std.proofs.Common.{length}
 use Rattle.value.proofs.Suffixing.{Writing}
 use Rattle.value.proofs.write_suffixes.Given as goal
 
-abbrev pub invariant-loop-p : goal.invariant-loop-p
-invariant-loop-p l = Writing l.t l.from l.o l.initial.out l.p l.q l.out
+abbrev pub invariant-loop-first : goal.invariant-loop-first
+invariant-loop-first l = Writing l.t l.o l.initial.out l.left l.end l.out
 
-abbrev pub decreases-loop-p : goal.decreases-loop-p
-decreases-loop-p l = length l.t - l.p
+abbrev pub decreases-loop-first : goal.decreases-loop-first
+decreases-loop-first l = length l.left
