@@ -1,7 +1,8 @@
-pub mod Stores
+pub mod Puts
 pub mod Leaves
-pub mod Runs
+pub mod Walks
 pub mod Nested
 pub mod Lists
 pub mod Whole
 pub mod Calls
+pub mod Going

@@ -1,202 +1,167 @@
 -- The fields of a list or a tuple written: each with a comma before it, and a bracket in the place of the first.
 -- Assumes nothing.
 use mathlib.Core.Path.{◌≡◌, refl, sym, ◌∙◌, ap}
-use mathlib.Core.List.{List, [], ◌∷◌, ◌++◌}
-use Rattle.std.specs.Prelude.{Option, None, Some}
-use Rattle.std.proofs.lemmas.Option.{none-some, same_Some}
-use Prim.Native.Nat.{ℕ, ◌+◌, ◌-◌, ◌≤◌, ◌<◌}
+use mathlib.Core.List.{List, [], ◌∷◌, ◌++◌, append_assoc}
+use Rattle.std.specs.Prelude.{Some}
+use Prim.Native.Nat.{ℕ, max, ◌+◌, ◌-◌, ◌≤◌, ◌<◌}
 use native.Mathlib.Omega.{arith}
-use lib.ListN.{length, take, drop, set, length-append, length-set}
-use lib.Seq.{set_at, length-take-le}
+use lib.ListN.{length, take, drop, set, length-append, length-drop}
+use borrow.Rule.Slice.PartMut.{put_mid}
 use Rattle.kinds.specs.Bytes.{lparen, rparen, comma}
-use Rattle.kinds.specs.Kind.{tuple, kind_text, rest_text}
+use Rattle.kinds.specs.Kind.{Kinds, no_kind, more_kinds, tuple, kind_text, list_text, rest_text}
 use Rattle.model.specs.declared.Sort.{Sort}
-use Rattle.model.specs.Tree.{Fields, no_field, more_fields, kind_of, kinds_of}
-use Rattle.model.specs.Layout.{le_value}
-use Rattle.model.specs.Record.{on_option}
-use Rattle.layout.specs.Buffer.{put}
-use Rattle.layout.proofs.Puts.{put_then}
-use Rattle.record.specs.Texts.{field_text_from, fields_from, tuple_text_from}
-use Rattle.record.proofs.Equations.{kind-full, fields_in, field_steps}
-use Rattle.record.proofs.Walk.{rest-length, body-length}
-use Rattle.abi.specs.Writes.{Room, Wrote, FieldRoom, FieldWrote, FieldsRoom, FieldsWrote}
-use Rattle.abi.proofs.Stores.{put-none, store_1, store_2}
-use Rattle.abi.proofs.Leaves.{wrote-text}
-use Rattle.abi.proofs.Runs.{Run, run-start, run_end, run-first, run-least, run_room, run-low, run_inside, run-item, run-next}
-use Rattle.abi.proofs.Nested.{field-kind}
+use Rattle.model.specs.Tree.{Fields, no_field, more_fields, kinds_of}
+use Rattle.model.specs.Record.{on_option, base_from, field_from, tuple_from}
+use Rattle.model.specs.Line.{field_text}
+use Rattle.model.proofs.Decoding.{on_some}
+use Rattle.record.specs.declared.Piece.{Piece}
+use Rattle.record.specs.Parts.{PieceIs, Headed}
+use Rattle.record.specs.Texts.{kind_from, fields_from, tuple_text_from}
+use Rattle.abi.specs.Writes.{Put, Room, KindRoom, KindWrote, FieldsRoom, FieldsWrote}
+use Rattle.abi.proofs.Puts.{put_none, behind-room, behind-byte, put-both, put-byte, wrote-text}
+use Rattle.abi.proofs.Walks.{First, Run, reads-headed, run-start, run-end, run-first, run-size, run-next}
+use Rattle.abi.proofs.Nested.{FieldThere, field-there}
 
--- u is t in brackets
-pub data Bracketed (t u : List ℕ) : Type 0 where
-  bare : t ≡ rparen ∷ [] → u ≡ lparen ∷ rparen ∷ [] → Bracketed t u
-  more : (w : List ℕ) → 1 ≤ length w → t ≡ comma ∷ w → u ≡ lparen ∷ w → Bracketed t u
+-- kinds in brackets, and with a comma before each
+rest-full : (ks : Kinds) → 1 ≤ length (rest_text ks)
+unfolding rest_text
+rest-full no_kind = omega arith
+rest-full (more_kinds k ks) = omega arith
 
--- the text with a comma before each field, where there is one in brackets
-pub record Commas (sort : Sort) (d : ℕ) (b u : List ℕ) : Type 0 where
-  pub text : List ℕ
-  pub same : fields_in sort d (length b) b ≡ Some text
-  pub shape : Bracketed text u
-  pub short : length text ≤ length u
+brackets-long : (ks : Kinds) → (2 ≤ length (kind_text (tuple ks))) × (length (rest_text ks) ≤ length (kind_text (tuple ks)))
+unfolding kind_text list_text rest_text
+brackets-long no_kind = (omega arith, omega arith)
+brackets-long (more_kinds k ks) = (omega (arith, length-append (kind_text k) (rest_text ks), rest-full ks), omega arith)
 
-commas : (sort : Sort) (d : ℕ) (b u : List ℕ) → tuple_text_from sort d b ≡ Some u → Commas sort d b u
-unfolding fields_in tuple_text_from fields_from kinds_of kind_text rest_text
-commas sort d b u e = go (fields_from sort d b) refl e
-  where
-    go : (o : Option Fields) → fields_from sort d b ≡ o → on_option (λ fs. kind_text (tuple (kinds_of fs))) o ≡ Some u → Commas sort d b u
-    go None p q = absurd (none-some u q)
-    go (Some no_field) p q = record {
-      text = rparen ∷ [];
-      same = ap (on_option (λ fs. rest_text (kinds_of fs))) p;
-      shape = bare refl (sym (same_Some _ _ q));
-      short = omega (arith, ap length (same_Some _ _ q));
-    }
-    go (Some (more_fields f fs)) p q =
-        let w : List ℕ = kind_text (kind_of f) ++ rest_text (kinds_of fs) in
-        record {
-          text = comma ∷ w;
-          same = ap (on_option (λ gs. rest_text (kinds_of gs))) p;
-          shape = more w (omega (arith, kind-full (kind_of f), length-append (kind_text (kind_of f)) (rest_text (kinds_of fs)))) refl (sym (same_Some _ _ q));
-          short = omega (arith, ap length (same_Some _ _ q));
-        }
+abbrev front : List ℕ → List ℕ
+front [] = []
+front (c ∷ t) = t
+
+-- the bracket in the place of the first comma
+in-brackets : (ks : Kinds) (done : List ℕ) → rest_text ks ≡ done ++ (rparen ∷ []) → kind_text (tuple ks) ≡ (lparen ∷ front done) ++ (rparen ∷ [])
+unfolding kind_text list_text rest_text
+in-brackets no_kind [] e = refl
+in-brackets no_kind (c ∷ t) e = absurd (omega (arith, ap length e, length-append t (rparen ∷ [])))
+in-brackets (more_kinds k ks) [] e = absurd (omega (arith, ap length e, length-append (kind_text k) (rest_text ks), rest-full ks))
+in-brackets (more_kinds k ks) (c ∷ t) e = ap (λ x. lparen ∷ front x) e
+
+opened : (done b out : List ℕ) (n m : ℕ) → Put done b out n → 1 ≤ length b → m ≡ max n 1 → Put (lparen ∷ front done) b (set out 0 40) m
+opened [] b out n m p h e =
+    let z = put-byte [] b b 0 (put_none b) lparen (omega arith) in
+    record { same = ap (λ x. set x 0 lparen) p.same ∙ z.same; long = omega (arith, e, p.long) }
+opened (c ∷ t) b out n m p h e = record { same = ap (λ x. set x 0 lparen) p.same; long = omega (arith, e, p.long) }
+
+-- fields, and room for them in brackets
+pub record Asked (b b₀ : List ℕ) : Type 0 where
+  pub sort : Sort
+  pub d : ℕ
+  pub fields : Fields
+  pub whole : fields_from sort d b ≡ Some fields
+  pub room : length (kind_text (tuple (kinds_of fields))) ≤ length b₀
+
+asked : {Q : Type 0} (b b₀ : List ℕ) (sort : Sort) (d : ℕ) (q : Room (tuple_text_from sort d b) b₀)
+    → ((fs : Fields) → fields_from sort d b ≡ Some fs → length (kind_text (tuple (kinds_of fs))) ≤ length b₀ → Q) → Q
+unfolding tuple_text_from
+asked b b₀ sort d q next = on_some (λ fs. kind_text (tuple (kinds_of fs))) (fields_from sort d b) q.same (λ fs e f. next fs e (omega (arith, q.room, ap length f)))
 
 -- the loop
-pub record FieldsRun (sort : Sort) (d : ℕ) (b u : List ℕ) (o : ℕ) (b₀ : List ℕ) (at p : ℕ) (out : List ℕ) : Type 0 where
-  pub text : List ℕ
-  pub shape : Bracketed text u
-  pub run : Run (fields_in sort d) b text o b₀ at p out
+abbrev pub FieldsRun : (b b₀ : List ℕ) → Asked b b₀ → List ℕ → ℕ → List ℕ → Type 0
+FieldsRun b b₀ q left n out = Run no_field more_fields (field_from 4 q.sort (base_from (tuple_from 4 q.d))) (λ fs. rest_text (kinds_of fs)) (rest_text (kinds_of q.fields)) b₀ left n out
 
-pub record FieldsOut (b : List ℕ) (o : ℕ) (b₀ : List ℕ) (at p : ℕ) (out : List ℕ) : Type 0 where
-  pub ask : FieldsRoom b o b₀
-  pub low : o ≤ p
-  pub size : length out ≡ length b₀
-  pub least : o + 2 ≤ length b₀
-  pub all : (sort : Sort) (d : ℕ) (q : Room (tuple_text_from sort d b) o b₀) → FieldsRun sort d b q.text o b₀ at p out
+pub record FieldsOut (b b₀ left : List ℕ) (n : ℕ) (out : List ℕ) : Type 0 where
+  pub ask : Asked b b₀
+  pub shorter : length left ≤ length b
+  pub inside : n < length out
+  pub two : 2 ≤ length b₀
+  pub all : (q : Asked b b₀) → FieldsRun b b₀ q left n out
 
-pub fields-start : (b : List ℕ) (o : ℕ) (b₀ : List ℕ) → FieldsRoom b o b₀ → FieldsOut b o b₀ 0 o b₀
-fields-start b o b₀ q = record {
-  ask = q;
-  low = omega arith;
-  size = refl;
-  least = q.least;
-  all = λ sort d m.
-      let z = commas sort d b m.text m.same in
-      record { text = z.text; shape = z.shape; run = run-start (fields_in sort d) b z.text o b₀ z.same (omega (arith, m.room, z.short)) };
-}
+pub fields-start : (b b₀ : List ℕ) → FieldsRoom b b₀ → FieldsOut b b₀ b 0 b₀
+unfolding fields_from
+fields-start b b₀ r =
+    asked b b₀ r.sort r.d r.at (λ fs e h.
+    let two : 2 ≤ length b₀ = omega (arith, h, (brackets-long (kinds_of fs)).0) in
+    record { ask = record { sort = r.sort; d = r.d; fields = fs; whole = e; room = h }; shorter = omega arith; inside = omega arith; two = two; all = λ q. run-start _ _ _ _ b b₀ q.fields q.whole })
 
--- a byte in the place of the first of those that were put in
-put_first : (b w : List ℕ) (o c x : ℕ) → o + (1 + length w) ≤ length b → set (put o (c ∷ w) b) o x ≡ put o (x ∷ w) b
-unfolding put
-put_first b w o c x h = set_at (take o b) c (w ++ drop (o + length (c ∷ w)) b) x o (length-take-le o b (omega arith))
+module _ (b b₀ left : List ℕ) (n : ℕ) (out : List ℕ) (s : FieldsOut b b₀ left n out) where
+  pub fields-headed : 0 < length left → Headed left
+  fields-headed = reads-headed _ _ _ left (s.all s.ask).rest (s.all s.ask).read
 
-module _ (b : List ℕ) (o : ℕ) (b₀ : List ℕ) (at p : ℕ) (out : List ℕ) (s : FieldsOut b o b₀ at p out) where
-  one : FieldsRun s.ask.sort s.ask.d b s.ask.at.text o b₀ at p out
-  one = s.all s.ask.sort s.ask.d s.ask.at
+  ended : length left ≡ 0 → (m : ℕ) → m ≡ max n 1 → (q : Asked b b₀) → Put (kind_text (tuple (kinds_of q.fields))) b₀ (set (set out 0 40) m 41) (m + 1)
+  unfolding kinds_of rest_text
+  ended h m e q =
+      let r = s.all q in
+      let f : kind_text (tuple (kinds_of q.fields)) ≡ (lparen ∷ front r.done) ++ (rparen ∷ []) = in-brackets (kinds_of q.fields) r.done (run-end _ _ _ _ _ b₀ left n out r h) in
+      let l = length-append (lparen ∷ front r.done) (rparen ∷ []) in
+      rw f (put-byte _ _ _ _ (opened r.done b₀ out n m r.put (omega (arith, q.room, (brackets-long (kinds_of q.fields)).0)) e) rparen (omega (arith, q.room, ap length f)))
 
-  module _ (h : length b ≤ at) where
-    -- for each sort and depth
-    module _ (sort : Sort) (d : ℕ) (q : Room (tuple_text_from sort d b) o b₀) where
-      abbrev r : FieldsRun sort d b q.text o b₀ at p out
-      r = s.all sort d q
+  pub fields-end : length left ≡ 0 → (m : ℕ) → m ≡ max n 1 → FieldsWrote b b₀ (set (set out 0 40) m 41) (m + 1)
+  unfolding tuple_text_from
+  fields-end h m e sort d q =
+      asked b b₀ sort d q (λ fs f g.
+      let a : Asked b b₀ = record { sort = sort; d = d; fields = fs; whole = f; room = g } in
+      wrote-text (tuple_text_from sort d b) _ (ap (on_option (λ fs. kind_text (tuple (kinds_of fs)))) f) b₀ _ (m + 1) (ended h m e a))
 
-      ended : r.text ≡ r.run.done ++ (rparen ∷ [])
-      ended = run_end (fields_in sort d) (field_text_from sort d) (λ u. comma ∷ u) (rparen ∷ []) 1 (field_steps sort d) b _ o b₀ at p out r.run h
+  module _ (p : Piece) (h : 0 < length left) (i : PieceIs left (Some p)) where
+    -- the first field that is left
+    module _ (q : Asked b b₀) where
+      abbrev here : First no_field more_fields (field_from 4 q.sort (base_from (tuple_from 4 q.d))) p (s.all q).rest
+      here = run-first _ _ _ _ _ b₀ left n out (s.all q) p h i
 
-      longer : length r.text ≡ length r.run.done + 1
-      longer = ap length ended ∙ length-append r.run.done (rparen ∷ [])
+      there : FieldThere q.d p.body.now here.first
+      there = field-there q.sort q.d p.kind p.body.now here.first here.is
 
-      nothing : (u : List ℕ) → length u ≡ 0 → put o u b₀ ≡ b₀
-      nothing [] e = sym (put-none b₀ o)
-      nothing (x ∷ u) e = absurd (omega arith)
+      abbrev text : List ℕ
+      text = comma ∷ field_text here.first
 
-      emptied : p ≡ o → Bracketed r.text q.text → Wrote (tuple_text_from sort d b) o b₀ (set (set out o 40) (o + 1) 41) (o + 2)
-      emptied z (bare e f) =
-          let same : out ≡ b₀ = r.run.same ∙ nothing r.run.done (omega (arith, r.run.place)) in
-          wrote-text (tuple_text_from sort d b) (lparen ∷ rparen ∷ []) (q.same ∙ ap Some f) o b₀ _ (o + 2) (rw same (store_2 b₀ o 40 41 s.least)) refl
-      emptied z (more w e f g) = absurd (omega (arith, r.run.place, ap length f, longer))
+      law : rest_text (kinds_of (more_fields here.first here.others)) ≡ text ++ rest_text (kinds_of here.others)
+      unfolding kinds_of rest_text field_text
+      law = refl
 
-      closed : set out p 41 ≡ put o r.text b₀
-      closed =
-          put_then o p r.run.done (rparen ∷ []) b₀ out (set out p 41) r.run.same (store_1 out p 41 (omega (arith, r.run.size, r.run.place, r.run.room, longer))) r.run.place (omega (arith, r.run.room, longer))
-          ∙ ap (λ x. put o x b₀) (sym ended)
+      less : length ((s.all q).done ++ text) < length b₀
+      less = omega (arith, run-size _ _ _ _ _ b₀ left n out (s.all q) p h i text law, q.room, (brackets-long (kinds_of q.fields)).1, rest-full (kinds_of here.others))
 
-      filled : (p ≡ o → ⊥) → Bracketed r.text q.text → Wrote (tuple_text_from sort d b) o b₀ (set (set out p 41) o 40) (p + 1)
-      filled z (bare e f) = absurd (z (omega (arith, longer, ap length e, r.run.place)))
-      filled z (more w e f g) =
-          wrote-text (tuple_text_from sort d b) (lparen ∷ w) (q.same ∙ ap Some g) o b₀ _ (p + 1)
-          (ap (λ x. set x o 40) (closed ∙ ap (λ x. put o x b₀) f) ∙ put_first b₀ w o comma 40 (omega (arith, r.run.room, ap length f)))
-          (omega (arith, longer, ap length f, r.run.place))
+      split : (s.all q).done ++ text ≡ ((s.all q).done ++ (comma ∷ [])) ++ field_text here.first
+      split = sym (append_assoc (s.all q).done (comma ∷ []) (field_text here.first))
 
-    pub fields-empty : p ≡ o → FieldsWrote b o b₀ (set (set out o 40) (o + 1) 41) (o + 2)
-    fields-empty z sort d q = emptied sort d q z (s.all sort d q).shape
+      comma-put : Put ((s.all q).done ++ (comma ∷ [])) b₀ (set out n 44) (n + 1)
+      comma-put = put-byte _ _ _ _ (s.all q).put comma (omega (arith, less, length-append (s.all q).done text))
 
-    pub fields-closed : p < length b₀
-    fields-closed =
-        let x = (s.all s.ask.sort s.ask.d s.ask.at).run in
-        omega (arith, x.room, x.place, longer s.ask.sort s.ask.d s.ask.at)
+    pub field-named : (2 ≤ length p.body.now) × Headed (drop 2 p.body.now)
+    field-named = ((there s.ask).long, (there s.ask).headed)
 
-    pub fields-end : (p ≡ o → ⊥) → FieldsWrote b o b₀ (set (set out p 41) o 40) (p + 1)
-    fields-end z sort d q = filled sort d q z (s.all sort d q).shape
+    -- its kind behind its name
+    module _ (k : Piece) (j : PieceIs (drop 2 p.body.now) (Some k)) where
+      abbrev place : List ℕ
+      place = take (length (set out n 44) - (n + 1)) (drop (n + 1) (set out n 44))
 
-  module _ (h : at < length b) where
-    abbrev part : List ℕ
-    part = take (length b - at) (drop at b)
-
-    pub fields-least : 6 ≤ length part
-    fields-least = run-least (fields_in s.ask.sort s.ask.d) (field_text_from s.ask.sort s.ask.d) (λ u. comma ∷ u) (rparen ∷ []) 1 (field_steps s.ask.sort s.ask.d) b _ o b₀ at p out one.run h
-
-    pub fields-room : p + 1 ≤ length out
-    fields-room = omega (arith, run_room (fields_in s.ask.sort s.ask.d) (field_text_from s.ask.sort s.ask.d) (λ u. comma ∷ u) (rparen ∷ []) 1 (field_steps s.ask.sort s.ask.d) b _ o b₀ at p out one.run h)
-
-    module _ (l : ℕ) (e : l ≡ le_value (take 4 (drop 0 part))) where
-      pub fields-low : 6 ≤ l
-      fields-low = run-low (fields_in s.ask.sort s.ask.d) (field_text_from s.ask.sort s.ask.d) (λ u. comma ∷ u) (rparen ∷ []) 1 (field_steps s.ask.sort s.ask.d) b _ o b₀ at p out one.run h l e
-
-      pub fields-inside : at + l ≤ length b
-      fields-inside = run_inside (fields_in s.ask.sort s.ask.d) (field_text_from s.ask.sort s.ask.d) (λ u. comma ∷ u) (rparen ∷ []) 1 (field_steps s.ask.sort s.ask.d) b _ o b₀ at p out one.run h l e
-
-      abbrev body : List ℕ
-      body = take (l - 6) (drop 6 part)
-
-      pub fields-less : length body < length b
-      fields-less = omega (arith, fields-low, fields-inside, body-length part l (rw rest-length (omega (arith, fields-inside))))
-
-      -- the first field that is left
-      module _ (sort : Sort) (d : ℕ) (q : Room (tuple_text_from sort d b) o b₀) where
-        abbrev here : List ℕ
-        here = (run-first (fields_in sort d) (field_text_from sort d) (λ u. comma ∷ u) (rparen ∷ []) 1 (field_steps sort d) b _ o b₀ at p out (s.all sort d q).run h).here
-
-        item : field_text_from sort d 0x10 body ≡ Some here
-        item =
-            let f = run-item (fields_in sort d) (field_text_from sort d) (λ u. comma ∷ u) (rparen ∷ []) 1 (field_steps sort d) b _ o b₀ at p out (s.all sort d q).run h l e _ refl in
-            let (k, _, _, _) = field-kind sort d _ body here f in
-            rw k at f
-
-        item_room : p + (1 + length here) ≤ length out
-        item_room = omega (arith, run_room (fields_in sort d) (field_text_from sort d) (λ u. comma ∷ u) (rparen ∷ []) 1 (field_steps sort d) b _ o b₀ at p out (s.all sort d q).run h)
-
-        asks : Room (field_text_from sort d 0x10 body) (p + 1) (set out p 44)
-        asks = record { text = here; same = item; room = rw length-set (omega (arith, item_room)) }
-
-        next : (r : ℕ) (out₁ : List ℕ) → Wrote (field_text_from sort d 0x10 body) (p + 1) (set out p 44) out₁ r → FieldsRun sort d b q.text o b₀ (at + l) r out₁
-        next r out₁ w = record {
-          text = (s.all sort d q).text;
-          shape = (s.all sort d q).shape;
-          run = run-next (fields_in sort d) (field_text_from sort d) (λ u. comma ∷ u) (rparen ∷ []) 1 (field_steps sort d) b _ o b₀ at p out (s.all sort d q).run h l e r out₁
-              (put_then p (p + 1) (comma ∷ []) here out (set out p 44) out₁ (store_1 out p 44 (omega (arith, item_room))) (w.all here item) refl (omega (arith, item_room)))
-              (omega (arith, w.end here item));
-        }
-
-      pub fields-asks : FieldRoom body (p + 1) (set out p 44)
-      fields-asks =
-          let (_, low, inside, _) = field-kind s.ask.sort s.ask.d 0x10 body (here s.ask.sort s.ask.d s.ask.at) (item s.ask.sort s.ask.d s.ask.at) in
-          record { sort = s.ask.sort; d = s.ask.d; at = asks s.ask.sort s.ask.d s.ask.at; low = omega arith; inside = omega arith }
-
-      pub fields-next : (r : ℕ) (out₁ : List ℕ) → length out₁ ≡ length (set out p 44) → FieldWrote body (p + 1) (set out p 44) out₁ r → FieldsOut b o b₀ (at + l) r out₁
-      fields-next r out₁ size w = record {
-        ask = s.ask;
-        low = omega (arith, s.low, (w s.ask.sort s.ask.d (asks s.ask.sort s.ask.d s.ask.at)).end _ (item s.ask.sort s.ask.d s.ask.at));
-        size = size ∙ length-set out p 44 ∙ s.size;
-        least = s.least;
-        all = λ sort d q. next sort d q r out₁ (w sort d (asks sort d q));
+      room : (q : Asked b b₀) → Room (kind_from q.d k.rest.now) place
+      room q = record {
+        text = field_text (here q).first;
+        same = (there q).kind k j;
+        room = behind-room _ _ _ _ (comma-put q) _ (omega (arith, less q, ap length (split q)));
       }
 
-pub ruleset listing = (fields-start, fields-empty, fields-closed, fields-end, fields-least, fields-room, fields-low, fields-inside, fields-less, fields-asks, fields-next)
+      pub field-asks : KindRoom k.rest.now place
+      field-asks = record { d = s.ask.d; at = room s.ask }
+
+      pub kind-shorter : length k.rest.now < length b
+      kind-shorter = omega (arith, j.covers, i.covers, s.shorter, length-drop 2 p.body.now)
+
+      module _ (c : List ℕ) (m : ℕ) (w : KindWrote k.rest.now place c m) where
+        abbrev out₁ : List ℕ
+        out₁ = put_mid (n + 1) (length (set out n 44) - (n + 1)) (set out n 44) c
+
+        next-put : (q : Asked b b₀) → Put ((s.all q).done ++ text q) b₀ out₁ (n + 1 + m)
+        next-put q = rw (split q) (put-both _ _ _ _ (comma-put q) _ c m (w q.d (room q) _ ((there q).kind k j)))
+
+        pub next-fits : n + 1 + m < length b₀
+        next-fits = omega (arith, (next-put s.ask).long, less s.ask)
+
+        pub fields-next : FieldsOut b b₀ p.rest.now (n + 1 + m) out₁
+        fields-next = record {
+          ask = s.ask;
+          shorter = omega (arith, i.covers, s.shorter);
+          inside = behind-byte _ _ _ _ (next-put s.ask) (less s.ask);
+          two = s.two;
+          all = λ q. run-next _ _ _ _ _ b₀ left n out (s.all q) p h i (text q) (law q) (n + 1 + m) out₁ (next-put q);
+        }

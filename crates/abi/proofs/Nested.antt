@@ -1,160 +1,134 @@
--- Kinds, fields and lists written: what each asks of the next, and what is left.
+-- A base and its suffixes written, and where they stand in a field's body.
 -- Assumes nothing.
 use mathlib.Core.Path.{◌≡◌, refl, sym, ◌∙◌, ap}
+use mathlib.Core.Bool.{Bool, true, false}
 use mathlib.Core.List.{List, ◌++◌}
-use Rattle.std.specs.Prelude.{Some}
-use Rattle.std.proofs.lemmas.Option.{none-some}
-use Prim.Native.Nat.{ℕ, zero, suc, ◌+◌, ◌-◌, ◌≤◌, ◌<◌}
+use Rattle.std.specs.Prelude.{Option, None, Some}
+use Rattle.std.proofs.lemmas.Option.{none-some, same_Some}
+use Prim.Native.Nat.{ℕ, zero, suc, ◌+◌, ◌-◌, ◌≤◌}
 use native.Mathlib.Omega.{arith}
+use lib.Dec.{leb, eqb}
 use lib.ListN.{length, take, drop, length-append}
-use Rattle.kinds.specs.Kind.{tuple, kind_text, rest_text}
+use borrow.Author.Tests.{leb-true}
+use borrow.Rule.Slice.PartMut.{put_mid}
+use Rattle.kinds.specs.Kind.{Suffix}
 use Rattle.model.specs.declared.Sort.{Sort}
 use Rattle.model.specs.declared.Sort.TheVariants.{Plain}
-use Rattle.model.specs.Tree.{Fields, no_field, more_fields, kind_of, kinds_of}
-use Rattle.model.specs.Layout.{le_value}
-use Rattle.model.specs.Record.{base_from, field_from, tuple_from}
+use Rattle.model.specs.Tree.{Base, Field, field, kind_of, base_kind}
+use Rattle.model.specs.Layout.{Piece as Taken, piece, no_piece, piece_of}
+use Rattle.model.specs.Record.{given, on_option, when, on_piece, base_from, decode_suffixes, field_from, tuple_from}
 use Rattle.model.specs.Line.{field_text}
-use Rattle.model.proofs.Decoding.{given-some, on_some}
-use Rattle.model.proofs.Scans.{part-rest}
-use Rattle.record.specs.Texts.{elementary_from, suffixes_from, base_text_from, kind_from, field_text_from, fields_from, tuple_text_from}
-use Rattle.record.proofs.Equations.{kind-full, base-deep, base-tuple, base-elementary}
-use Rattle.record.proofs.There.{piece-there, name_end, field-there}
-use Rattle.record.proofs.Walk.{body-length}
-use Rattle.abi.specs.Writes.{Room, Wrote, KindRoom, KindWrote, FieldRoom, FieldWrote, FieldsRoom, FieldsWrote}
-use Rattle.abi.proofs.Leaves.{wrote-text, first-room, second-room, both-wrote}
+use Rattle.model.proofs.Decoding.{when-some, given-some, on_some}
+use Rattle.record.specs.declared.Piece.{Piece}
+use Rattle.record.specs.Parts.{taken, PieceIs, Headed}
+use Rattle.record.specs.Texts.{elementary_from, suffixes_from, base_text_from, kind_from, tuple_text_from}
+use Rattle.abi.specs.Writes.{Put, Room, Wrote, KindRoom, KindWrote, BaseRoom, BaseWrote, FieldsRoom, FieldsWrote}
+use Rattle.abi.proofs.Puts.{behind-room, put-inside, put-both, wrote-text}
+use Rattle.abi.proofs.Walks.{read-headed}
+use Rattle.record.proofs.Equations.{base-deep, base-tuple, base-elementary, arrays-text}
 
--- a base and its suffixes: what stands there, where there is a text
-pub record KindThere (d : ℕ) (t : List ℕ) : Type 0 where
-  pub low : 6 ≤ le_value (take 4 t)
-  pub inside : le_value (take 4 t) ≤ length t
-  pub base : List ℕ
-  pub suffixes : List ℕ
-  pub base-is : base_text_from d (le_value (take 2 (drop 4 t))) (take (le_value (take 4 t) - 6) (drop 6 t)) ≡ Some base
-  pub suffixes-is : suffixes_from (drop (le_value (take 4 t)) t) ≡ Some suffixes
-  pub whole : kind_from d t ≡ Some (base ++ suffixes)
-
-pub kind-there : (d : ℕ) (t u : List ℕ) → kind_from d t ≡ Some u → KindThere d t
+pub kind-headed : (t b : List ℕ) → KindRoom t b → Headed t
 unfolding kind_from
-kind-there d t u e =
-    piece-there t _ e (λ low inside f.
-    given-some (base_text_from d (le_value (take 2 (drop 4 t))) (take (le_value (take 4 t) - 6) (drop 6 t))) _ f (λ x p g.
-    on_some (λ y. x ++ y) (suffixes_from (drop (le_value (take 4 t)) t)) g (λ y q i.
-    record { low = low; inside = inside; base = x; suffixes = y; base-is = p; suffixes-is = q; whole = e ∙ ap Some (sym i) })))
-
-there : (t : List ℕ) (o : ℕ) (b : List ℕ) (d : ℕ) → Room (kind_from d t) o b → KindThere d t
-there t o b d q = kind-there d t q.text q.same
+kind-headed t b q = read-headed t _ q.at.text q.at.same
 
 -- a tuple is gone into where one may still nest
-pub deeper : (d k : ℕ) (body u : List ℕ) → k ≡ 9 → base_text_from d k body ≡ Some u → tuple_text_from Plain (d - 1) body ≡ Some u
+deeper : (d k : ℕ) (body u : List ℕ) → k ≡ 9 → base_text_from d k body ≡ Some u → tuple_text_from Plain (d - 1) body ≡ Some u
 deeper zero k body u y e = absurd (none-some u (sym (base-deep zero k body y refl) ∙ e))
 deeper (suc d) k body u y e = sym (base-tuple (suc d) k body y (λ z. absurd (omega arith))) ∙ e
 
--- brackets take two bytes
-pub brackets-long : (fs : Fields) → 2 ≤ length (kind_text (tuple (kinds_of fs)))
-unfolding kind_text kinds_of
-brackets-long no_field = omega arith
-brackets-long (more_fields f fs) = omega (arith, kind-full (kind_of f), length-append (kind_text (kind_of f)) (rest_text (kinds_of fs)))
+-- a base
+module _ (k : ℕ) (body b : List ℕ) where
+  pub tuple-asks : k ≡ 9 → BaseRoom k body b → FieldsRoom body b
+  tuple-asks y q = record { sort = Plain; d = q.d - 1; at = record { text = q.at.text; same = deeper q.d k body q.at.text y q.at.same; room = q.at.room } }
 
-abbrev BaseWrote : ℕ → List ℕ → ℕ → List ℕ → List ℕ → ℕ → Type 0
-BaseWrote k body o b b₁ p = (d : ℕ) → Room (base_text_from d k body) o b → Wrote (base_text_from d k body) o b b₁ p
+  pub elementary-asks : (k ≡ 9 → ⊥) → BaseRoom k body b → Room (elementary_from k body) b
+  elementary-asks y q = rw (base-elementary q.d k body y) at q.at
 
-module _ (t : List ℕ) (o : ℕ) (b : List ℕ) (n k : ℕ) (e : n ≡ le_value (take 4 (drop 0 t))) (f : k ≡ le_value (take 2 (drop 4 t))) where
-  abbrev body : List ℕ
-  body = take (n - 6) (drop 6 t)
+  module _ (b₁ : List ℕ) (n : ℕ) where
+    pub tuple-wrote : k ≡ 9 → FieldsWrote body b b₁ n → BaseWrote k body b b₁ n
+    tuple-wrote y w d q u e = w Plain (d - 1) (record { text = q.text; same = deeper d k body q.text y q.same; room = q.room }) u (deeper d k body u y e)
 
-  abbrev rest : List ℕ
-  rest = take (length t - n) (drop n t)
+    pub elementary-wrote : (k ≡ 9 → ⊥) → Wrote (elementary_from k body) b b₁ n → BaseWrote k body b b₁ n
+    elementary-wrote y w d q = rw (base-elementary d k body y) w
 
-  module _ (d : ℕ) (q : Room (kind_from d t) o b) where
-    base-here : base_text_from d k body ≡ Some (there t o b d q).base
-    base-here = rw (f, e) (there t o b d q).base-is
+-- the texts of the base and of the suffixes
+record Parts (d : ℕ) (t : List ℕ) (p : Piece) (u : List ℕ) : Type 0 where
+  base : List ℕ
+  suffixes : List ℕ
+  base-is : base_text_from d p.kind p.body.now ≡ Some base
+  suffixes-is : suffixes_from p.rest.now ≡ Some suffixes
+  whole : u ≡ base ++ suffixes
 
-    suffixes-here : suffixes_from rest ≡ Some (there t o b d q).suffixes
-    suffixes-here = rw (part-rest, e) (there t o b d q).suffixes-is
+module _ (t b : List ℕ) (p : Piece) (i : PieceIs t (Some p)) where
+  parts : (d : ℕ) (u : List ℕ) → kind_from d t ≡ Some u → Parts d t p u
+  unfolding kind_from taken
+  parts d u e =
+      given-some (base_text_from d p.kind p.body.now) _ (rw (← i.same) at e) (λ x f g.
+      on_some (λ y. x ++ y) (suffixes_from p.rest.now) g (λ y h j.
+      record { base = x; suffixes = y; base-is = f; suffixes-is = h; whole = sym j }))
 
-    base-room : Room (base_text_from d k body) o b
-    base-room = first-room (kind_from d t) (base_text_from d k body) (suffixes_from rest) (there t o b d q).base (there t o b d q).suffixes base-here suffixes-here (there t o b d q).whole o b q
+  module _ (d : ℕ) (q : Room (kind_from d t) b) where
+    abbrev here : Parts d t p q.text
+    here = parts d q.text q.same
 
-  -- what is written of the base
-  tuple-base : k ≡ 9 → (b₁ : List ℕ) (p : ℕ) → FieldsWrote body o b b₁ p → BaseWrote k body o b b₁ p
-  tuple-base y b₁ p w d q =
-      let g : tuple_text_from Plain (d - 1) body ≡ Some q.text = deeper d k body q.text y q.same in
-      let z = w Plain (d - 1) (record { text = q.text; same = g; room = q.room }) in
-      wrote-text (base_text_from d k body) q.text q.same o b b₁ p (z.all q.text g) (z.end q.text g)
+    fits : length (here.base ++ here.suffixes) ≤ length b
+    fits = rw (← here.whole) q.room
 
-  elementary-base : (k ≡ 9 → ⊥) → (b₁ : List ℕ) (p : ℕ) → Wrote (elementary_from k body) o b b₁ p → BaseWrote k body o b b₁ p
-  elementary-base y b₁ p w d q = rw (base-elementary d k body y) w
+    base-room : Room (base_text_from d p.kind p.body.now) b
+    base-room = record { text = here.base; same = here.base-is; room = omega (arith, fits, length-append here.base here.suffixes) }
 
-  module _ (q : KindRoom t o b) where
-    pub tuple-asks : k ≡ 9 → FieldsRoom body o b
-    unfolding tuple_text_from
-    tuple-asks y =
-        let z = base-room q.d q.at in
-        let g = deeper q.d k body z.text y z.same in
-        record {
-          sort = Plain;
-          d = q.d - 1;
-          at = record { text = z.text; same = g; room = z.room };
-          least = on_some (λ fs. kind_text (tuple (kinds_of fs))) (fields_from Plain (q.d - 1) body) g (λ fs _ h. omega (arith, z.room, ap length h, brackets-long fs));
-        }
+  pub base-asks : KindRoom t b → BaseRoom p.kind p.body.now b
+  base-asks q = record { d = q.d; at = base-room q.d q.at }
 
-    pub tuple-less : length body < length t
-    tuple-less = omega (arith, q.low, q.inside, body-length t n (omega (arith, q.inside)))
+  -- the suffixes behind the base
+  module _ (b₁ : List ℕ) (n : ℕ) (w : BaseWrote p.kind p.body.now b b₁ n) where
+    base-put : (d : ℕ) (q : Room (kind_from d t) b) → Put (here d q).base b b₁ n
+    base-put d q = w d (base-room d q) _ (here d q).base-is
 
-    pub elementary-asks : (k ≡ 9 → ⊥) → Room (elementary_from k body) o b
-    elementary-asks y = rw (base-elementary q.d k body y) at (base-room q.d q.at)
+    module _ (q : KindRoom t b) where
+      pub base-inside : n ≤ length b₁
+      base-inside = put-inside _ _ _ _ (base-put q.d q.at) (omega (arith, fits q.d q.at, length-append (here q.d q.at).base (here q.d q.at).suffixes))
 
-    -- the suffixes behind it
-    module _ (b₁ : List ℕ) (p : ℕ) (w : BaseWrote k body o b b₁ p) where
-      suffixes-behind : Room (suffixes_from rest) p b₁
-      suffixes-behind =
-          second-room (kind_from q.d t) (base_text_from q.d k body) (suffixes_from rest) (there t o b q.d q.at).base (there t o b q.d q.at).suffixes
-          (base-here q.d q.at) (suffixes-here q.d q.at) (there t o b q.d q.at).whole o b q.at b₁ p (w q.d (base-room q.d q.at))
+      pub suffixes-asks : Room (suffixes_from p.rest.now) (take (length b₁ - n) (drop n b₁))
+      suffixes-asks = record { text = (here q.d q.at).suffixes; same = (here q.d q.at).suffixes-is; room = behind-room _ _ _ _ (base-put q.d q.at) _ (fits q.d q.at) }
 
-      kind-wrote : (b₂ : List ℕ) (r : ℕ) → Wrote (suffixes_from rest) p b₁ b₂ r → KindWrote t o b b₂ r
-      kind-wrote b₂ r z d m =
-          both-wrote (kind_from d t) (base_text_from d k body) (suffixes_from rest) (there t o b d m).base (there t o b d m).suffixes
-          (base-here d m) (suffixes-here d m) (there t o b d m).whole o b m b₁ p (w d (base-room d m)) b₂ r z
+    module _ (c : List ℕ) (m : ℕ) (z : Wrote (suffixes_from p.rest.now) (take (length b₁ - n) (drop n b₁)) c m) where
+      kind-put : (d : ℕ) (q : Room (kind_from d t) b) → Put ((here d q).base ++ (here d q).suffixes) b (put_mid n (length b₁ - n) b₁ c) (n + m)
+      kind-put d q = put-both _ _ _ _ (base-put d q) _ c m (z _ (here d q).suffixes-is)
 
-    module _ (b₁ : List ℕ) (p : ℕ) where
-      pub tuple-suffixes : k ≡ 9 → FieldsWrote body o b b₁ p → Room (suffixes_from rest) p b₁
-      tuple-suffixes y w = suffixes-behind b₁ p (tuple-base y b₁ p w)
+      pub kind-inside : KindRoom t b → n + m ≤ length (put_mid n (length b₁ - n) b₁ c)
+      kind-inside q = put-inside _ _ _ _ (kind-put q.d q.at) (fits q.d q.at)
 
-      pub tuple-kind : k ≡ 9 → FieldsWrote body o b b₁ p → (b₂ : List ℕ) (r : ℕ) → Wrote (suffixes_from rest) p b₁ b₂ r → KindWrote t o b b₂ r
-      tuple-kind y w = kind-wrote b₁ p (tuple-base y b₁ p w)
-
-      pub elementary-suffixes : (k ≡ 9 → ⊥) → Wrote (elementary_from k body) o b b₁ p → Room (suffixes_from rest) p b₁
-      elementary-suffixes y w = suffixes-behind b₁ p (elementary-base y b₁ p w)
-
-      pub elementary-kind : (k ≡ 9 → ⊥) → Wrote (elementary_from k body) o b b₁ p → (b₂ : List ℕ) (r : ℕ) → Wrote (suffixes_from rest) p b₁ b₂ r → KindWrote t o b b₂ r
-      elementary-kind y w = kind-wrote b₁ p (elementary-base y b₁ p w)
+      pub kind-wrote : KindWrote t b (put_mid n (length b₁ - n) b₁ c) (n + m)
+      kind-wrote d q = wrote-text (kind_from d t) _ (q.same ∙ ap Some (here d q).whole) b _ (n + m) (kind-put d q)
 
 -- a field: its kind stands behind its name
-module _ (sort : Sort) (d k : ℕ) (body u : List ℕ) (e : field_text_from sort d k body ≡ Some u) where
-  pub field-kind : (k ≡ 0x10) × (8 ≤ name_end body) × (name_end body + 6 ≤ length body) × (kind_from d (drop (name_end body) body) ≡ Some u)
-  unfolding field_text_from
-  field-kind =
-      on_some field_text (field_from 4 sort (base_from (tuple_from 4 d)) k body) e (λ f p g.
-      let (z, h) = field-there sort d k body f p in
-      (z, h.low, h.inside, h.kind ∙ ap Some g))
+pub record FieldThere (d : ℕ) (body : List ℕ) (f : Field) : Type 0 where
+  pub long : 2 ≤ length body
+  pub headed : Headed (drop 2 body)
+  pub kind : (n : Piece) → PieceIs (drop 2 body) (Some n) → kind_from d n.rest.now ≡ Some (field_text f)
 
-module _ (body : List ℕ) (o : ℕ) (b : List ℕ) (v : ℕ) (e : v ≡ le_value (take 4 (drop 2 body))) where
-  abbrev behind : List ℕ
-  behind = take (length body - (2 + v)) (drop (2 + v) body)
+test-there : {A Q : Type 0} {a : A} (t : Bool) (o : Option A) → elim t as (λ _. Option A) [ true ↦ o | false ↦ None ] ≡ Some a → (t ≡ true → o ≡ Some a → Q) → Q
+test-there true o e next = next refl e
+test-there {a = a} false o e next = absurd (none-some a e)
 
-  here : (sort : Sort) (d : ℕ) (u : List ℕ) → field_text_from sort d 0x10 body ≡ Some u → kind_from d behind ≡ Some u
-  here sort d u f = let (_, _, _, g) = field-kind sort d 0x10 body u f in rw (part-rest, e) g
+kind-behind : (d m : ℕ) (nm : List ℕ) (T : Base → List Suffix → Bool) (q : Taken) (f : Field)
+    → on_piece q (λ j base r. given (base_from (tuple_from 4 d) j base) (λ b. given (decode_suffixes 4 r) (λ ss. when (T b ss) (Some (field m nm b ss))))) ≡ Some f
+    → on_piece q (λ j base r. given (base_text_from d j base) (λ u. on_option (λ v. u ++ v) (suffixes_from r))) ≡ Some (field_text f)
+unfolding base_text_from suffixes_from field_text kind_of
+kind-behind d m nm T no_piece f e = absurd (none-some f e)
+kind-behind d m nm T (piece j base r) f e =
+    given-some (base_from (tuple_from 4 d) j base) _ e (λ b p e₁.
+    given-some (decode_suffixes 4 r) _ e₁ (λ ss q e₂.
+    when-some (T b ss) _ e₂ (λ _ e₃. rw (p, q) (ap Some (sym (arrays-text (base_kind b) ss) ∙ ap field_text (same_Some _ _ e₃))))))
 
-  pub field-asks : FieldRoom body o b → KindRoom behind o b
-  field-asks q =
-      let g = here q.sort q.d q.at.text q.at.same in
-      let z = kind-there q.d behind q.at.text g in
-      record { d = q.d; at = record { text = q.at.text; same = g; room = q.at.room }; low = z.low; inside = z.inside }
-
-  pub field-wrote : (b₁ : List ℕ) (r : ℕ) → KindWrote behind o b b₁ r → FieldWrote body o b b₁ r
-  field-wrote b₁ r w sort d q =
-      let g = here sort d q.text q.same in
-      let z = w d (record { text = q.text; same = g; room = q.room }) in
-      wrote-text (field_text_from sort d 0x10 body) q.text q.same o b b₁ r (z.all q.text g) (z.end q.text g)
-
-pub ruleset kinding = (tuple-asks, tuple-less, tuple-suffixes, tuple-kind, elementary-asks, elementary-suffixes, elementary-kind, field-asks, field-wrote)
+pub field-there : (sort : Sort) (d k : ℕ) (body : List ℕ) (f : Field) → field_from 4 sort (base_from (tuple_from 4 d)) k body ≡ Some f → FieldThere d body f
+unfolding field_from taken kind_from
+field-there sort d k body f e =
+    when-some (eqb k 0x10) _ e (λ _ e₁.
+    test-there (leb 2 (length body)) _ e₁ (λ two e₂.
+    record {
+      long = leb-true _ _ two;
+      headed = read-headed (drop 2 body) _ f e₂;
+      kind = λ n i. test-there (eqb n.kind 0x11) _ (rw (← i.same) at e₂) (λ _ e₃. kind-behind d _ _ _ (piece_of 4 n.rest.now) f e₃);
+    }))

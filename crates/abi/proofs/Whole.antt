@@ -1,205 +1,162 @@
 -- Lines written of a record that was checked.
 -- Assumes nothing.
-use Rattle.std.specs.Prelude.{Ok}
 use mathlib.Core.Path.{◌≡◌, refl, sym, ◌∙◌, ap}
-use mathlib.Core.List.{List, ◌++◌}
-use Rattle.std.specs.Prelude.{Some}
+use mathlib.Core.List.{List, [], ◌∷◌, ◌++◌, append_assoc}
+use Rattle.std.specs.Prelude.{Some, Ok}
 use Prim.Native.Nat.{ℕ, ◌+◌, ◌-◌, ◌≤◌, ◌<◌}
-use native.Mathlib.Omega.{arith}
 use native.Mathlib.Nat.{zero-add}
-use lib.ListN.{length, take, drop, set, length-append, length-drop, length-set}
-use lib.Seq.{length-take-le}
-use Rattle.kinds.specs.Bytes.{ascii}
+use native.Mathlib.Omega.{arith}
+use lib.ListN.{length, take, drop, set, length-append}
+use borrow.Rule.Slice.PartMut.{put_mid}
 use Rattle.kinds.specs.Kind.{Kind, kind_text}
 use Rattle.model.specs.declared.Refusal.TheVariants.{NoRoom}
+use Rattle.model.specs.declared.Sort.{Sort}
 use Rattle.model.specs.Tree.{kinds_of}
 use Rattle.model.specs.Reading.{deepest}
-use Rattle.model.specs.Record.{on_option}
+use Rattle.model.specs.Record.{on_option, decode_field, decode_fields}
 use Rattle.model.specs.Line.{field_text}
-use Rattle.model.specs.Answer.{writes, Answer, refusing}
+use Rattle.model.specs.Answer.{writes, Answer, Output, refusing}
 use Rattle.model.proofs.Decoding.{on_some}
+use Rattle.layout.specs.Answers.{Ends}
 use Rattle.layout.specs.Buffer.{put}
-use Rattle.layout.proofs.Puts.{put_then, length-put}
 use Rattle.layout.proofs.Answers.{ends-full, ends-written}
-use Rattle.record.specs.declared.Spot.{Spot}
 use Rattle.record.specs.declared.Measured.{Measured}
-use Rattle.record.specs.Texts.{kind_from, tuple_text_from}
-use Rattle.record.proofs.Tops.{fields-decode}
-use Rattle.abi.specs.Writes.{Room, KindRoom, KindWrote, FieldsRoom, FieldsWrote}
-use Rattle.abi.specs.Lines.{LineRoom, line_from, LineWrote, Lined, line_of, LineEnds, Signed, signature_of, SignatureEnds, Kinded, KindEnds}
-use Rattle.abi.proofs.Leaves.{wrote-text}
-use Rattle.abi.proofs.Nested.{kind-there, brackets-long}
-use Rattle.abi.proofs.Stores.{store_1}
-
-pub part_length : (b : List ℕ) (from to : ℕ) → from ≤ to → to ≤ length b → length (take (to - from) (drop from b)) ≡ to - from
-part_length b from to h k = length-take-le (to - from) (drop from b) (rw length-drop (omega arith))
+use Rattle.record.specs.Texts.{kind_from, fields_from, tuple_text_from}
+use Rattle.abi.specs.Writes.{Put, Room, KindRoom, KindWrote, FieldsRoom, FieldsWrote, line_from, LineRoom, LineWrote}
+use Rattle.abi.specs.Lines.{Lined, line_of, LineEnds, Signed, signature_of, SignatureEnds, Kinded, KindEnds}
+use Rattle.abi.proofs.Puts.{behind-room, behind-byte, put-both, put-byte, wrote-text}
 
 -- a name, and the list behind it
-module _ (b : List ℕ) (from to start end : ℕ) (text : List ℕ) (q : LineRoom b from to start end text) where
-  abbrev name : List ℕ
-  name = take (to - from) (drop from b)
+module _ (name fields text : List ℕ) where
+  lined : {Q : Type 0} (sort : Sort) (d : ℕ) (q : Room (line_from sort d name fields) text) → ((u : List ℕ) → tuple_text_from sort d fields ≡ Some u → name ++ u ≡ q.text → Q) → Q
+  unfolding line_from
+  lined sort d q = on_some (λ u. name ++ u) (tuple_text_from sort d fields) q.same
 
-  abbrev list : List ℕ
-  list = take (end - start) (drop start b)
+  pub name-room : LineRoom name fields text → length name ≤ length text
+  name-room q = lined q.sort q.d q.at (λ u _ e. omega (arith, q.at.room, ap length e, length-append name u))
 
-  name-long : length name ≡ to - from
-  name-long = part_length b from to q.order q.inside
+  module _ (text₁ : List ℕ) (n : ℕ) (p : Put name text text₁ n) where
+    pub list-asks : LineRoom name fields text → FieldsRoom fields (take (length text₁ - n) (drop n text₁))
+    list-asks q = lined q.sort q.d q.at (λ u f e. record { sort = q.sort; d = q.d; at = record { text = u; same = f; room = behind-room _ _ _ _ p u (omega (arith, q.at.room, ap length e)) } })
 
-  pub line-copies : 0 + length name ≤ length text
-  line-copies = omega (arith, name-long, q.room.at.room)
+    module _ (c : List ℕ) (m : ℕ) (w : FieldsWrote fields (take (length text₁ - n) (drop n text₁)) c m) where
+      line-put : (sort : Sort) (d : ℕ) (q : Room (line_from sort d name fields) text) → Put q.text text (put_mid n (length text₁ - n) text₁ c) (n + m)
+      line-put sort d q =
+          lined sort d q (λ u f e.
+          rw (← e) (put-both _ _ _ _ p u c m (w sort d (record { text = u; same = f; room = behind-room _ _ _ _ p u (omega (arith, q.room, ap length e)) }) u f)))
 
-  module _ (text₁ : List ℕ) (e : text₁ ≡ put 0 name text) where
-    same_length : length text₁ ≡ length text
-    same_length = ap length e ∙ length-put 0 name text line-copies
+      pub line-fits : LineRoom name fields text → n + m ≤ length text
+      line-fits q = omega (arith, (line-put q.sort q.d q.at).long, q.at.room)
 
-    pub line-asks : FieldsRoom list (to - from) text₁
-    line-asks = let z = q.room in record {
-      sort = z.sort;
-      d = z.d;
-      at = record { text = z.at.text; same = z.at.same; room = omega (arith, z.at.room, same_length) };
-      least = omega (arith, z.least, same_length);
-    }
+      pub line-wrote : LineWrote name fields text (put_mid n (length text₁ - n) text₁ c) (n + m)
+      line-wrote sort d q = wrote-text (line_from sort d name fields) q.text q.same text _ (n + m) (line-put sort d q)
 
-    pub line_wrote : (text₂ : List ℕ) (r : ℕ) → FieldsWrote list (to - from) text₁ text₂ r → LineWrote b from to start end text text₂ r
-    unfolding line_from
-    line_wrote text₂ r w sort d m =
-        on_some (λ u. name ++ u) (tuple_text_from sort d list) m.same (λ u p g.
-        let long : length (name ++ u) ≡ to - from + length u = length-append name u ∙ ap (λ x. x + length u) name-long in
-        let fits : to - from + length u ≤ length text = omega (arith, m.room, ap length g, long) in
-        let z = w sort d (record { text = u; same = p; room = omega (arith, fits, same_length) }) in
-        wrote-text (line_from sort d b from to start end) (name ++ u) (ap (on_option (λ v. name ++ v)) p) 0 text text₂ r
-        (put_then 0 (to - from) name u text text₁ text₂ e (z.all u p) (omega (arith, name-long)) (omega (arith, fits, name-long)))
-        (omega (arith, z.end u p, long)))
+-- how a call ends that wrote
+ends-put : (o : Output) (u b b₁ : List ℕ) (r : ℕ) → o ≡ writes u → length u ≤ length b → Put u b b₁ r → Ends o b b₁ (Ok r)
+unfolding put
+ends-put o u b b₁ r e h p = ends-written o b (Ok r) u b₁ (ap Ok p.long) e h (p.same ∙ rw zero-add)
 
--- a line that a record says
-module _ (b : List ℕ) (s : Spot) (l : Measured) (p : Lined b s l) where
-  abbrev kinds : List ℕ
-  kinds = kind_text (Kind.tuple (kinds_of p.fields))
+-- a list, and a line, that a record says
+said-list : (sort : Sort) (b : List ℕ) → tuple_text_from sort deepest b ≡ on_option (λ fs. kind_text (Kind.tuple (kinds_of fs))) (decode_fields 4 sort b)
+unfolding tuple_text_from fields_from decode_fields decode_field
+said-list sort b = refl
 
-  said-kinds : tuple_text_from p.sort deepest (take (l.to - l.from) (drop l.from b)) ≡ Some kinds
-  unfolding tuple_text_from
-  said-kinds = ap (on_option (λ fs. kind_text (Kind.tuple (kinds_of fs)))) (fields-decode p.sort (take (l.to - l.from) (drop l.from b)) ∙ p.listed.there)
-
-  said-line : line_from p.sort deepest b s.from s.to l.from l.to ≡ Some (line_of p)
+module _ (nm : List ℕ) (l : Measured) (p : Lined nm l) where
+  said-line : line_from p.sort deepest nm l.bytes.now ≡ Some (line_of p)
   unfolding line_from line_of
-  said-line = rw said-kinds (ap (λ x. Some (x ++ kinds)) p.named.there)
+  said-line = rw (said-list, p.listed.same) (ap (λ x. Some (x ++ kind_text (Kind.tuple (kinds_of p.fields)))) p.named.same)
 
-  line-long : length (line_of p) ≡ s.to - s.from + l.text
+  line-long : length (line_of p) ≡ length nm + l.text
   unfolding line_of
-  line-long = length-append p.name kinds ∙ omega (arith, p.listed.long, ap length p.named.there, part_length b s.from s.to p.named.order p.named.inside)
+  line-long = length-append p.name (kind_text (Kind.tuple (kinds_of p.fields))) ∙ omega (arith, p.listed.long, ap length p.named.same)
 
-  pub line_adds : s.to - s.from + l.text ≤ 200000
-  line_adds = omega (arith, p.listed.small, p.short, p.named.inside)
+  module _ (text : List ℕ) (h : length nm + l.text ≤ length text) where
+    room : Room (line_from p.sort deepest nm l.bytes.now) text
+    room = record { text = line_of p; same = said-line; room = omega (arith, line-long) }
 
-  pub line-room : (text : List ℕ) → s.to - s.from + l.text ≤ length text → LineRoom b s.from s.to l.from l.to text
-  line-room text h = record {
-    order = p.named.order;
-    inside = p.named.inside;
-    list-order = p.listed.order;
-    list_inside = p.listed.inside;
-    room = record {
-      sort = p.sort;
-      d = deepest;
-      at = record { text = kinds; same = said-kinds; room = omega (arith, p.listed.long) };
-      least = omega (arith, p.listed.long, brackets-long p.fields);
-    };
-  }
+    pub line-room : LineRoom nm l.bytes.now text
+    line-room = record { sort = p.sort; d = deepest; at = room }
 
-  -- and what is there once it is written
-  line-there : (text text₁ : List ℕ) (r : ℕ) → s.to - s.from + l.text ≤ length text → LineWrote b s.from s.to l.from l.to text text₁ r → (text₁ ≡ put 0 (line_of p) text) × (r ≡ length (line_of p))
-  line-there text text₁ r h w =
-      let z = w p.sort deepest (record { text = line_of p; same = said-line; room = omega (arith, line-long) }) in
-      (z.all (line_of p) said-line, z.end (line_of p) said-line ∙ zero-add (length (line_of p)))
+    said-put : (text₁ : List ℕ) (r : ℕ) → LineWrote nm l.bytes.now text text₁ r → Put (line_of p) text text₁ r
+    said-put text₁ r w = w p.sort deepest room (line_of p) said-line
 
-module _ (b : List ℕ) (s : Spot) (l : Measured) (text : List ℕ) where
-  pub line-full : (r : Answer) → r ≡ refusing NoRoom 0 → length text < s.to - s.from + l.text → LineEnds b s l text text r
-  line-full r e h p = ends-full (writes (line_of p)) text r (line_of p) e refl (omega (arith, line-long b s l p))
+module _ (nm : List ℕ) (l : Measured) (text : List ℕ) where
+  pub line-full : (r : Answer) → r ≡ refusing NoRoom 0 → length text < length nm + l.text → LineEnds nm l text text r
+  line-full r e h p = ends-full (writes (line_of p)) text r (line_of p) e refl (omega (arith, line-long nm l p))
 
-  pub line-ends : (text₁ : List ℕ) (m : ℕ) → s.to - s.from + l.text ≤ length text → LineWrote b s.from s.to l.from l.to text text₁ m → LineEnds b s l text text₁ (Ok (s.to - s.from + l.text))
-  line-ends text₁ m h w p =
-      ends-written (writes (line_of p)) text _ (line_of p) text₁ (ap Ok (sym (line-long b s l p))) refl (omega (arith, line-long b s l p)) (line-there b s l p text text₁ m h w).0
+  pub line-ends : length nm + l.text ≤ length text → (text₁ : List ℕ) (r : ℕ) → LineWrote nm l.bytes.now text text₁ r → LineEnds nm l text text₁ (Ok r)
+  line-ends h text₁ r w p = ends-put _ _ text text₁ r refl (omega (arith, line-long nm l p)) (said-put nm l p text h text₁ r w)
 
 -- a signature that a record says
-module _ (b : List ℕ) (s : Spot) (i o : Measured) (p : Signed b s i o) where
-  abbrev outs : List ℕ
-  outs = kind_text (Kind.tuple (kinds_of p.outputs))
+module _ (nm : List ℕ) (i o : Measured) where
+  module _ (p : Signed nm i o) where
+    abbrev outs : List ℕ
+    outs = kind_text (Kind.tuple (kinds_of p.outputs))
 
-  said-outs : tuple_text_from p.sort deepest (take (o.to - o.from) (drop o.from b)) ≡ Some outs
-  unfolding tuple_text_from
-  said-outs = ap (on_option (λ fs. kind_text (Kind.tuple (kinds_of fs)))) (fields-decode p.sort (take (o.to - o.from) (drop o.from b)) ∙ p.listed.there)
+    said-outs : tuple_text_from p.sort deepest o.bytes.now ≡ Some outs
+    said-outs = said-list p.sort o.bytes.now ∙ ap (on_option (λ fs. kind_text (Kind.tuple (kinds_of fs)))) p.listed.same
 
-  signature-long : length (signature_of p) ≡ s.to - s.from + i.text + 1 + o.text
-  unfolding signature_of
-  signature-long = length-append (line_of p.line) (ascii ":" ++ outs) ∙ omega (arith, line-long b s i p.line, p.listed.long)
+    split : signature_of p ≡ (line_of p.line ++ (58 ∷ [])) ++ outs
+    unfolding signature_of
+    split = sym (append_assoc (line_of p.line) (58 ∷ []) outs)
 
-  pub signature_adds : s.to - s.from + i.text + 1 + o.text ≤ 300000
-  signature_adds = omega (arith, line_adds b s i p.line, p.listed.small, p.line.short)
+    before-outs : length (line_of p.line ++ (58 ∷ [])) ≡ length nm + i.text + 1
+    before-outs = length-append (line_of p.line) (58 ∷ []) ∙ omega (arith, line-long nm i p.line)
 
-  module _ (text : List ℕ) (h : s.to - s.from + i.text + 1 + o.text ≤ length text) where
-    pub signature-line : LineRoom b s.from s.to i.from i.to text
-    signature-line = line-room b s i p.line text (omega arith)
+    signature-long : length (signature_of p) ≡ length nm + i.text + 1 + o.text
+    signature-long = ap length split ∙ length-append (line_of p.line ++ (58 ∷ [])) outs ∙ omega (arith, before-outs, p.listed.long)
 
-    module _ (text₁ : List ℕ) (r : ℕ) (w : LineWrote b s.from s.to i.from i.to text text₁ r) where
-      written : (text₁ ≡ put 0 (line_of p.line) text) × (r ≡ length (line_of p.line))
-      written = line-there b s i p.line text text₁ r (omega arith) w
+  module _ (text : List ℕ) where
+    pub signature-full : (r : Answer) → r ≡ refusing NoRoom 0 → length text < length nm + i.text + 1 + o.text → SignatureEnds nm i o text text r
+    signature-full r e h p = ends-full (writes (signature_of p)) text r (signature_of p) e refl (omega (arith, signature-long p))
 
-      pub signature-place : r ≡ s.to - s.from + i.text
-      signature-place = written.1 ∙ line-long b s i p.line
+    module _ (h : length nm + i.text + 1 + o.text ≤ length text) where
+      pub signature-line : Signed nm i o → LineRoom nm i.bytes.now text
+      signature-line p = line-room nm i p.line text (omega arith)
 
-      size : length text₁ ≡ length text
-      size = ap length written.0 ∙ length-put 0 (line_of p.line) text (omega (arith, line-long b s i p.line))
+      module _ (text₁ : List ℕ) (n : ℕ) (w : LineWrote nm i.bytes.now text text₁ n) where
+        written : (p : Signed nm i o) → Put (line_of p.line) text text₁ n
+        written p = said-put nm i p.line text (omega arith) text₁ n w
 
-      pub signature-colon : r < length text₁
-      signature-colon = omega (arith, size, signature-place)
+        pub signature-colon : Signed nm i o → n < length text₁
+        signature-colon p = behind-byte _ _ _ _ (written p) (omega (arith, line-long nm i p.line))
 
-      outs_fit : r + 1 + length outs ≤ length (set text₁ r 58)
-      outs_fit = rw length-set (omega (arith, size, signature-place, p.listed.long))
+        colon-put : (p : Signed nm i o) → Put (line_of p.line ++ (58 ∷ [])) text (set text₁ n 58) (n + 1)
+        colon-put p = put-byte _ _ _ _ (written p) 58 (omega (arith, line-long nm i p.line))
 
-      pub signature-asks : FieldsRoom (take (o.to - o.from) (drop o.from b)) (r + 1) (set text₁ r 58)
-      signature-asks = record {
-        sort = p.sort;
-        d = deepest;
-        at = record { text = outs; same = said-outs; room = outs_fit };
-        least = omega (arith, outs_fit, brackets-long p.outputs);
-      }
+        abbrev place : List ℕ
+        place = take (length (set text₁ n 58) - (n + 1)) (drop (n + 1) (set text₁ n 58))
 
-      signature-there : (text₂ : List ℕ) (m : ℕ) → FieldsWrote (take (o.to - o.from) (drop o.from b)) (r + 1) (set text₁ r 58) text₂ m → text₂ ≡ put 0 (signature_of p) text
-      unfolding signature_of
-      signature-there text₂ m v =
-          let z = v p.sort deepest (record { text = outs; same = said-outs; room = outs_fit }) in
-          let last : text₂ ≡ put r (ascii ":" ++ outs) text₁
-          = put_then r (r + 1) (ascii ":") outs text₁ (set text₁ r 58) text₂ (store_1 text₁ r 58 (omega (arith, signature-colon))) (z.all outs said-outs) refl (omega (arith, size, signature-place, p.listed.long)) in
-          put_then 0 r (line_of p.line) (ascii ":" ++ outs) text text₁ text₂ written.0 last (omega (arith, written.1)) (omega (arith, line-long b s i p.line, p.listed.long))
+        outs-room : (p : Signed nm i o) → Room (tuple_text_from p.sort deepest o.bytes.now) place
+        outs-room p = record { text = outs p; same = said-outs p; room = behind-room _ _ _ _ (colon-put p) (outs p) (omega (arith, signature-long p, ap length (split p))) }
 
-      pub signature-size : (text₂ : List ℕ) (m : ℕ) → FieldsWrote (take (o.to - o.from) (drop o.from b)) (r + 1) (set text₁ r 58) text₂ m → length text₂ ≡ length text
-      signature-size text₂ m v = ap length (signature-there text₂ m v) ∙ length-put 0 (signature_of p) text (omega (arith, signature-long))
+        pub outs-asks : Signed nm i o → FieldsRoom o.bytes.now place
+        outs-asks p = record { sort = p.sort; d = deepest; at = outs-room p }
 
-module _ (b : List ℕ) (s : Spot) (i o : Measured) (text : List ℕ) where
-  pub signature-full : (r : Answer) → r ≡ refusing NoRoom 0 → length text < s.to - s.from + i.text + 1 + o.text → SignatureEnds b s i o text text r
-  signature-full r e h p = ends-full (writes (signature_of p)) text r (signature_of p) e refl (omega (arith, signature-long b s i o p))
+        module _ (c : List ℕ) (m : ℕ) (v : FieldsWrote o.bytes.now place c m) where
+          abbrev text₂ : List ℕ
+          text₂ = put_mid (n + 1) (length (set text₁ n 58) - (n + 1)) (set text₁ n 58) c
 
-  pub signature-ends : (text₁ text₂ : List ℕ) (r m : ℕ) → s.to - s.from + i.text + 1 + o.text ≤ length text → LineWrote b s.from s.to i.from i.to text text₁ r
-      → FieldsWrote (take (o.to - o.from) (drop o.from b)) (r + 1) (set text₁ r 58) text₂ m → SignatureEnds b s i o text text₂ (Ok (s.to - s.from + i.text + 1 + o.text))
-  signature-ends text₁ text₂ r m h w v p =
-      ends-written (writes (signature_of p)) text _ (signature_of p) text₂ (ap Ok (sym (signature-long b s i o p))) refl (omega (arith, signature-long b s i o p)) (signature-there b s i o p text h text₁ r w text₂ m v)
+          signature-put : (p : Signed nm i o) → Put (signature_of p) text text₂ (n + 1 + m)
+          signature-put p = rw (split p) (put-both _ _ _ _ (colon-put p) (outs p) c m (v p.sort deepest (outs-room p) (outs p) (said-outs p)))
+
+          pub signature-fits : Signed nm i o → n + 1 + m ≤ length text
+          signature-fits p = omega (arith, (signature-put p).long, signature-long p)
+
+          pub signature-ends : SignatureEnds nm i o text text₂ (Ok (n + 1 + m))
+          signature-ends p = ends-put _ _ text text₂ (n + 1 + m) refl (omega (arith, signature-long p)) (signature-put p)
 
 -- a field's kind
-module _ (b : List ℕ) (l : Measured) (text : List ℕ) where
-  abbrev there : List ℕ
-  there = take (l.to - l.from) (drop l.from b)
-
-  pub kind-full : (r : Answer) → r ≡ refusing NoRoom 0 → length text < l.text → KindEnds b l text text r
+module _ (l : Measured) (text : List ℕ) where
+  pub kind-full : (r : Answer) → r ≡ refusing NoRoom 0 → length text < l.text → KindEnds l text text r
   kind-full r e h p = ends-full (writes (field_text p.field)) text r (field_text p.field) e refl (omega (arith, p.said.long))
 
   module _ (h : l.text ≤ length text) where
-    here : (p : Kinded b l) → Room (kind_from deepest there) 0 text
-    here p = record { text = field_text p.field; same = p.said.there; room = omega (arith, p.said.long) }
+    kind-there : (p : Kinded l) → Room (kind_from deepest l.bytes.now) text
+    kind-there p = record { text = field_text p.field; same = p.said.same; room = omega (arith, p.said.long) }
 
-    pub kind-asks : Kinded b l → KindRoom there 0 text
-    kind-asks p = let z = kind-there deepest there (field_text p.field) p.said.there in record { d = deepest; at = here p; low = z.low; inside = z.inside }
+    pub kind-asks : Kinded l → KindRoom l.bytes.now text
+    kind-asks p = record { d = deepest; at = kind-there p }
 
-    pub kind-ends : (text₁ : List ℕ) (m : ℕ) → KindWrote there 0 text text₁ m → KindEnds b l text text₁ (Ok l.text)
-    kind-ends text₁ m w p =
-        ends-written (writes (field_text p.field)) text _ (field_text p.field) text₁ (ap Ok p.said.long) refl (omega (arith, p.said.long)) ((w deepest (here p)).all (field_text p.field) p.said.there)
-
-pub ruleset lining = (line-copies, line-asks, line_wrote, line_adds, line-room, line-full, line-ends, signature_adds, signature-line, signature-place, signature-colon, signature-asks, signature-size, signature-full, signature-ends, kind-full, kind-asks, kind-ends)
+    pub kind-ends : (text₁ : List ℕ) (r : ℕ) → KindWrote l.bytes.now text text₁ r → KindEnds l text text₁ (Ok r)
+    kind-ends text₁ r w p = ends-put _ _ text text₁ r refl (omega (arith, p.said.long)) (w deepest (kind-there p) (field_text p.field) p.said.same)

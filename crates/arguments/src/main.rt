@@ -34,12 +34,6 @@ fn count_of(field: &[u8], most: usize) -> usize {
 
 // Data. What has no room is left out.
 
-fn push(data: &mut Data, bytes: &[u8]) {
-    for &byte in bytes {
-        let _ = data.try_push(byte);
-    }
-}
-
 fn push_zeros(data: &mut Data, count: usize) {
     for _ in 0..count {
         let _ = data.try_push(0);
@@ -49,14 +43,14 @@ fn push_zeros(data: &mut Data, count: usize) {
 // The word of a number.
 fn push_word(data: &mut Data, v: u64) {
     push_zeros(data, PADDING);
-    push(data, &v.to_be_bytes());
+    tables::put(data, &v.to_be_bytes());
 }
 
 // What a part says.
 fn push_part(data: &mut Data, said: &[u8]) {
     match said {
         [] | [b'-', ..] => (),
-        [b'x', hex @ ..] => push(data, &tables::bytes_of::<DATA>(hex)),
+        [b'x', hex @ ..] => tables::put(data, &tables::bytes_of::<DATA>(hex)),
         [b'z', count @ ..] => push_zeros(data, count_of(count, DATA)),
         _ => {
             if let Some(v) = text::plain(u64::MAX, said) {
@@ -118,6 +112,7 @@ fn row<P: Print>(rt: &P, line: &[u8]) -> io::Result<()> {
     print!(rt; "\n")
 }
 
+// Each program has a `main` of its own; what they share is in `tables`.
 fn main(rt: HostRuntime) -> io::Result<()> {
     let input = tables::read_input::<INPUT>(&rt)?;
     tables::each_row(&rt, &input, |rt, line| row(rt, line))

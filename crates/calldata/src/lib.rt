@@ -1,17 +1,17 @@
 // Call data beside a function's record: the heads of its inputs, and whether data are the encoding of some values.
 #![tactic(auto)]
 
-ghost use Rattle.std.specs.Prelude.{◌≡◌, ◌∷◌, ◌+◌, ◌≤◌, length};
+ghost use Rattle.std.specs.Prelude.{◌≡◌, ◌∷◌, ◌≤◌, length, MatchResult};
 ghost use Rattle.model.specs.Layout.{little_endian};
 ghost use Rattle.model.specs.Answer.{said, outcome, after};
-ghost use Rattle.layout.specs.Buffer.{put};
 ghost use Rattle.record.specs.Encoded.{SomeFields};
+ghost use Rattle.abi.specs.Writes.{Put};
 ghost use Rattle.calldata.specs.Calls.{flag, heads_output, check_output};
-ghost use Rattle.calldata.specs.Parts.{InputsAre, HeadsLong, SomeHeads, HeadsWrote, HeadsEnd, Judged};
+ghost use Rattle.calldata.specs.Parts.{InputsIn, NoInputs, SomeRead, Limited, TooLong, ShortIn, Refuses, HeadsLong, SomeHeads, HeadsWrote};
 
 use extent::Extent;
 use model::{Answer, Keyword, Refusal};
-use record::Checked;
+use record::{Checked, Piece};
 
 // How many bytes heads, or data, may have.
 const LIMIT: usize = 65536;
@@ -19,37 +19,45 @@ const LIMIT: usize = 65536;
 // How many bytes are written of a head.
 const EACH: usize = 5;
 
-// Where the inputs of a function stand in its record, or why there are none.
-#[derive(Clone, Copy)]
-pub enum Inputs {
-    At { from: usize, to: usize },
-    Missing(Refusal),
+// Inputs.
+
+// The inputs of a function's record: "16 also here for anything but a function". An arm for each case: under an or-pattern the check does not know which it is.
+#[tactic(auto, using(crate::proofs::Finding::inputs))]
+fn inputs_of(record: &[u8]) -> Result<&[u8], Refusal>
+    ensures { MatchResult result (λ inputs. InputsIn «record».now inputs.now) (λ refusal. NoInputs «record».now refusal) }
+{
+    match record::check(record) {
+        Some(
+            Checked::Declared {
+                keyword: Keyword::Function,
+                inputs,
+                ..
+            },
+        ) => Ok(inputs.bytes),
+        Some(Checked::Declared { .. }) => Err(Refusal::WrongSort),
+        Some(Checked::Constructor { .. }) => Err(Refusal::WrongSort),
+        Some(Checked::Field { .. }) => Err(Refusal::NotWellFormed),
+        None => Err(Refusal::NotWellFormed),
+    }
 }
 
-// "16 also here for anything but a function"
-fn inputs_of(record: &[u8]) -> Inputs
-    ensures { InputsAre «record».now result }
+// The same, if their heads are within the limit. What is lent as a parameter is known to be of bytes.
+#[tactic(auto, using(crate::proofs::Finding::limits))]
+fn limited(inputs: &[u8]) -> Result<&[u8], Refusal>
+    requires { SomeRead inputs.now }
+    ensures { MatchResult result (λ b. Limited inputs.now b.now) (λ refusal. TooLong inputs.now refusal) }
 {
-    let c = record::check(record);
-    match c {
-        Checked::Declared {
-            keyword,
-            name,
-            inputs,
-            outputs,
-        } => match keyword {
-            Keyword::Function => Inputs::At {
-                from: inputs.from,
-                to: inputs.to,
-            },
-            Keyword::Constructor => Inputs::Missing(Refusal::WrongSort),
-            Keyword::Event => Inputs::Missing(Refusal::WrongSort),
-            Keyword::Error => Inputs::Missing(Refusal::WrongSort),
-        },
-        Checked::Constructor => Inputs::Missing(Refusal::WrongSort),
-        Checked::Field { name, kind } => Inputs::Missing(Refusal::NotWellFormed),
-        Checked::IllFormed => Inputs::Missing(Refusal::NotWellFormed),
+    if LIMIT < extent::of_fields(inputs).head {
+        return Err(Refusal::CallTooLong);
     }
+    Ok(inputs)
+}
+
+// The inputs that a call is about: 24 after 16.
+fn call_inputs(record: &[u8]) -> Result<&[u8], Refusal>
+    ensures { MatchResult result (λ inputs. ShortIn «record».now inputs.now) (λ refusal. Refuses «record».now refusal) }
+{
+    limited(inputs_of(record)?)
 }
 
 // Heads.
@@ -59,108 +67,67 @@ fn heads_length(b: &[u8]) -> usize
     requires { SomeFields b.now }
     ensures { HeadsLong b.now result }
 {
-    let mut at = 0;
+    let mut left = b;
     let mut n = 0;
-    while at < b.len() {
-        let k = extent::kind_at(b, at);
-        at = k.to;
+    // A walk over pieces: a loop (`record::Piece`).
+    while !left.is_empty() {
+        left = Piece::first(left).rest;
         n += EACH;
     }
     n
 }
 
-// "1 or 0"
-fn flag(dynamic: bool) -> u8
-    ensures { result ≡ flag dynamic }
+// Writes a head: "1 or 0, then the length, 4 bytes little-endian". Each writer writes at the front of what it is lent, and answers how much.
+fn write_head(out: &mut [u8], e: Extent) -> usize
+    requires { 5 ≤ length out.old }
+    ensures { Put (flag e.dynamic ∷ little_endian 4 e.head) out.old out.new result }
 {
-    if dynamic {
-        return 1;
-    }
-    0
-}
-
-// Writes a head at o.
-fn write_head(out: &mut [u8], o: usize, e: Extent)
-    requires { o + 5 ≤ length out.old }
-    ensures { out.new ≡ put o (flag e.dynamic ∷ little_endian 4 e.head) out.old }
-{
-    out[o] = flag(e.dynamic);
-    layout::put4(out, o + 1, e.head);
+    out[0] = u8::from(e.dynamic);
+    layout::put4(out, 1, e.head);
+    EACH
 }
 
 // Writes the heads of fields.
-fn write_heads(b: &[u8], out: &mut [u8])
+fn write_heads(b: &[u8], out: &mut [u8]) -> usize
     requires { SomeHeads b.now out.old }
-    ensures { HeadsWrote b.now out.old out.new }
+    ensures { HeadsWrote b.now out.old out.new result }
 {
-    let mut at = 0;
-    let mut o = 0;
-    while at < b.len() {
-        let k = extent::kind_at(b, at);
-        let from = k.from;
-        let to = k.to;
-        write_head(out, o, extent::of_kind(&b[from..to]));
-        at = to;
-        o += EACH;
+    let mut left = b;
+    let mut n = 0;
+    // A walk over pieces: a loop (`record::Piece`).
+    while !left.is_empty() {
+        let field = Piece::first(left);
+        let kind = record::named(field.body).rest;
+        n += write_head(&mut out[n..], extent::of_kind(kind));
+        left = field.rest;
     }
+    n
 }
 
-// The heads of fields, or a refusal: 24 before 20.
-fn heads_of(b: &[u8], out: &mut [u8]) -> Answer
-    requires { SomeFields b.now }
-    ensures { HeadsEnd b.now out.old out.new result }
-{
-    let e = extent::of_fields(b);
-    if LIMIT < e.head {
-        return abi::refused(Refusal::CallTooLong);
-    }
-    let length = heads_length(b);
-    if out.len() < length {
-        return abi::refused(Refusal::NoRoom);
-    }
-    write_heads(b, out);
-    Ok(length)
-}
-
-// "For a function's inputs, tell per parameter whether it is dynamic, and its head length in bytes"
+// "For a function's inputs, tell per parameter whether it is dynamic, and its head length in bytes": 20 after 24.
 pub fn heads(record: &[u8], out: &mut [u8]) -> Answer
     ensures says { said result ≡ outcome (length out.old) (heads_output «record».now) }
     ensures left { out.new ≡ after out.old (heads_output «record».now) }
 {
-    let i = inputs_of(record);
-    match i {
-        Inputs::At { from, to } => heads_of(&record[from..to], out),
-        Inputs::Missing(refusal) => abi::refused(refusal),
+    let inputs = call_inputs(record)?;
+    if out.len() < heads_length(inputs) {
+        return Err(Refusal::NoRoom.into());
     }
+    Ok(write_heads(inputs, out))
 }
 
 // Data.
 
-// Whether data are the encoding of some values of the kinds of fields: 24 before 25.
-fn judged(b: &[u8], data: &[u8]) -> Answer
-    requires { SomeFields b.now }
-    ensures { Judged b.now «data».now result }
-{
-    let e = extent::of_fields(b);
-    if LIMIT < e.head {
-        return abi::refused(Refusal::CallTooLong);
-    }
-    if LIMIT < data.len() {
-        return abi::refused(Refusal::CallTooLong);
-    }
-    if judge::encoded(b, data) {
-        return Ok(0);
-    }
-    abi::refused(Refusal::NotAnEncoding)
-}
-
-// "A second call judges the data by the same record, writing nothing."
+// "A second call judges the data by the same record, writing nothing": 24 before 25.
 pub fn check(record: &[u8], data: &[u8]) -> Answer
     ensures says { said result ≡ outcome 0 (check_output «record».now «data».now) }
 {
-    let i = inputs_of(record);
-    match i {
-        Inputs::At { from, to } => judged(&record[from..to], data),
-        Inputs::Missing(refusal) => abi::refused(refusal),
+    let inputs = call_inputs(record)?;
+    if LIMIT < data.len() {
+        return Err(Refusal::CallTooLong.into());
     }
+    if !judge::encoded(inputs, data) {
+        return Err(Refusal::NotAnEncoding.into());
+    }
+    Ok(0)
 }

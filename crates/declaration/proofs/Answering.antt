@@ -24,7 +24,9 @@ use Rattle.fields.specs.declared.Got.{Got}
 use Rattle.fields.specs.Scratch.{Read, refusal_of, failed, bytes_of}
 use Rattle.fields.proofs.Family.{is-got, of-got, is-failed, of-failed}
 use Rattle.parser.specs.Stages.{Whole}
-use Rattle.declaration.specs.Outputs.{exec_output, AdmittedIs}
+use Rattle.text.specs.Admitted.{AdmittedIs}
+use Rattle.text.proofs.Admitting.{admits, refuses-first}
+use Rattle.declaration.specs.Outputs.{exec_output}
 
 -- a failure that a `?` hands on
 pub refused-exit : (o : Output) (b : List ℕ) (r : Answer) (x : Refused) → IsErrAnd r (λ y. y ≡ x) → o ≡ refuses x.refusal x.position → Ends o b b r
@@ -65,12 +67,12 @@ module _ (s : List ℕ) (k : Keyword) (c : List ℕ) (r : Read) (w : Whole c (on
 module _ (s : List ℕ) (c : Call) (i : Result (Unit {0}) Refused) (a : AdmittedIs s i) where
   pub not-admitted : (x : Refused) → i ≡ Err x → read_output c s ≡ refuses x.refusal x.position
   unfolding read_output parse written
-  not-admitted x e = let f : AdmittedIs s (Err x) = rw e at a in ap (written (encode 4)) (f (read_declaration c))
+  not-admitted x e = ap (written (encode 4)) (refuses-first (read_declaration c) s x (rw e at a))
 
   module _ (e : i ≡ Ok tt) (o : Option Keyword) (w : o ≡ wanted c s) where
     admitted : read_output c s ≡ written (encode 4) (read_by o s)
     unfolding read_output parse read_declaration
-    admitted = let f : AdmittedIs s (Ok tt) = rw e at a in ap (written (encode 4)) (f.1 (read_declaration c) ∙ ap (λ (k : Option Keyword). read_by k s) (sym w))
+    admitted = let f : AdmittedIs s (Ok tt) = rw e at a in ap (written (encode 4)) (admits (read_declaration c) s f.1 ∙ ap (λ (k : Option Keyword). read_by k s) (sym w))
 
     pub not-wanted : (b : List ℕ) (x : Refused) → o ≡ None → x ≡ at_start ExpectDeclaration → Ends (read_output c s) b b (Err x)
     unfolding written

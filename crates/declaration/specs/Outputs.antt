@@ -1,11 +1,8 @@
 -- What a call writes, from the checks that come first to the reading.
 -- Assumes nothing.
-use Rattle.std.specs.Prelude.{◌≡◌, List, ℕ, ◌+◌, ◌*◌, ◌≤◌, length, Result, Ok, Err}
+use Rattle.std.specs.Prelude.{List, ℕ, ◌+◌, ◌*◌}
 use Rattle.model.specs.declared.Keyword.{Keyword}
-use Rattle.model.specs.declared.Refused.{Refused}
-use Rattle.model.specs.Tree.{Declaration}
-use Rattle.model.specs.Parser.{Ans, bad}
-use Rattle.model.specs.Reading.{deepest, exec, parser_of, longest_text, admit}
+use Rattle.model.specs.Reading.{deepest, exec, parser_of}
 use Rattle.model.specs.Record.{encode}
 use Rattle.model.specs.Answer.{Output}
 use Rattle.model.specs.Calls.{written}
@@ -17,8 +14,3 @@ scratch_for n = 10 * (n + deepest)
 -- what is read of an admitted text, where a keyword is wanted
 unfoldable pub exec_output : Keyword → List ℕ → Output
 exec_output k s = written (encode 4) (exec (parser_of k) s)
-
--- whatever f reads: an admitted text is what f reads of it, and the others are refused
-abbrev pub AdmittedIs : List ℕ → Result (Unit {0}) Refused → Type 0
-AdmittedIs s (Ok _) = (length s ≤ longest_text) × ((f : List ℕ → Ans Declaration) → admit f s ≡ f s)
-AdmittedIs s (Err r) = (f : List ℕ → Ans Declaration) → admit f s ≡ bad r.refusal r.position

@@ -2,25 +2,11 @@
 #![tactic(auto)]
 
 ghost use Rattle.std.specs.Prelude.{◌≡◌, ◌*◌, ◌+◌, ◌≤◌, length};
-ghost use Rattle.model.specs.Reading.{opening_of, keywords, wanted};
-ghost use Rattle.model.specs.Answer.{writes, said, outcome, after};
+ghost use Rattle.model.specs.Answer.{said, outcome, after};
 ghost use Rattle.model.specs.Calls.{read_output};
-ghost use Rattle.declaration.specs.Outputs.{scratch_for, exec_output, AdmittedIs};
+ghost use Rattle.declaration.specs.Outputs.{scratch_for, exec_output};
 
 use model::{Answer, Call, Keyword, Refusal, Refused};
-
-// Copies a record, if all of it fits.
-#[tactic(auto, unfolding(model::specs::Answer::said, model::specs::Answer::outcome, model::specs::Answer::after, layout::specs::Buffer::put))]
-fn deliver(bytes: &[u8], record: &mut [u8]) -> Answer
-    ensures says { said result ≡ outcome (length «record».old) (writes bytes.now) }
-    ensures left { «record».new ≡ after «record».old (writes bytes.now) }
-{
-    if record.len() < bytes.len() {
-        return Err(Refusal::NoRoom.into());
-    }
-    layout::copy(record, 0, bytes);
-    Ok(bytes.len())
-}
 
 // Reads into an array of N bytes.
 fn sized<const N: usize>(text: &[u8], k: Keyword, record: &mut [u8]) -> Answer
@@ -30,7 +16,7 @@ fn sized<const N: usize>(text: &[u8], k: Keyword, record: &mut [u8]) -> Answer
 {
     let mut scratch = [0; N];
     let read = parser::exec(text, k, &mut scratch)?;
-    deliver(&scratch[..read.len], record)
+    layout::deliver(&scratch[..read.len], record)
 }
 
 // "8 over 4,096 bytes"
@@ -96,63 +82,13 @@ fn by_size(text: &[u8], k: Keyword, record: &mut [u8]) -> Answer
     }
 }
 
-// Whether a text is read at all.
-#[tactic(auto, unfolding(model::specs::Reading::admit))]
-fn admit(text: &[u8]) -> Result<(), Refused>
-    ensures { AdmittedIs text.now result }
-{
-    if LONGEST_TEXT < text.len() {
-        return Err(Refusal::TooLong.into());
-    }
-    let valid = text::valid_length(text);
-    if valid < text.len() {
-        return Err(Refused {
-            refusal: Refusal::NotUtf8,
-            position: valid,
-        });
-    }
-    Ok(())
-}
-
-// The keyword that a text starts with, unskipped. Not a loop over the four, since the text is compared with constants so.
-#[tactic(auto, unfolding(model::specs::Reading::keyword_text))]
-fn opening(text: &[u8]) -> Option<Keyword>
-    ensures { result ≡ opening_of keywords text.now }
-{
-    if text::begins(b"function", text) {
-        Some(Keyword::Function)
-    } else if text::begins(b"constructor", text) {
-        Some(Keyword::Constructor)
-    } else if text::begins(b"event", text) {
-        Some(Keyword::Event)
-    } else if text::begins(b"error", text) {
-        Some(Keyword::Error)
-    } else {
-        None
-    }
-}
-
-// The keyword that a call wants: "the general call wants the one it saw".
-#[tactic(auto, unfolding(model::specs::Reading::wanted))]
-fn wanted(call: Call, text: &[u8]) -> Option<Keyword>
-    ensures { result ≡ wanted call text.now }
-{
-    match call {
-        Call::General => opening(text),
-        Call::Function => Some(Keyword::Function),
-        Call::Constructor => Some(Keyword::Constructor),
-        Call::Event => Some(Keyword::Event),
-        Call::Error => Some(Keyword::Error),
-    }
-}
-
 // The five reading calls: `Descriptor::parse_declaration`, and `FunctionDescriptor::parse_declaration` and so on, which skip leading blanks.
 pub fn read(call: Call, text: &[u8], record: &mut [u8]) -> Answer
     ensures says { said result ≡ outcome (length «record».old) (read_output call text.now) }
     ensures left { «record».new ≡ after «record».old (read_output call text.now) }
 {
-    admit(text)?;
-    let Some(k) = wanted(call, text) else {
+    text::admit(text)?;
+    let Some(k) = parser::wanted(call, text) else {
         return Err(Refusal::ExpectDeclaration.into());
     };
     by_size(text, k, record)

@@ -3,3 +3,4 @@ pub mod Sheets
 pub mod Signatures
 pub mod Strips
 pub mod Samples
+pub mod Naming

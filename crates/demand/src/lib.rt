@@ -2,12 +2,14 @@
 // form is what is proved here.
 #![tactic(auto)]
 
+ghost use Rattle.std.specs.Prelude.{[], MatchResult};
+ghost use Rattle.model.specs.Answer.{number};
 ghost use Rattle.strip.specs.Strip.{next_line, next_signature};
 ghost use Rattle.demand.specs.Runs.{ReadRun, KindRun, SheetRun, CanonicalRun, SignatureRun, FullRun, KindTextRun, NameRun};
 ghost use Rattle.demand.specs.Strips.{PieceRun};
 ghost use Rattle.demand.specs.Samples.{SampleRun};
 
-use model::{Answer, Call};
+use model::{Answer, Call, Refusal};
 
 pub fn read(call: Call, text: &[u8], record: &mut [u8]) -> Answer
     ensures { ReadRun call text.now «record».old «record».new result }
@@ -57,10 +59,10 @@ pub fn kind_text(record: &[u8], text: &mut [u8]) -> Answer
     abi::kind_text(record, text)
 }
 
-pub fn name<'a>(record: &'a [u8], refusal: &mut u32) -> &'a [u8]
-    ensures { NameRun «record».now result.now refusal.new }
+pub fn name(record: &[u8]) -> Result<&[u8], Refusal>
+    ensures { MatchResult result (λ name. NameRun «record».now name.now 0) (λ refusal. NameRun «record».now [] (number refusal)) }
 {
-    abi::name(record, refusal)
+    abi::name(record)
 }
 
 pub fn next_line(strip: &[u8]) -> Option<usize>

@@ -5,7 +5,7 @@
 use arrayvec::ArrayVec;
 use model::{Answer, Call};
 use std::{fmt, io};
-use tables::FILL;
+use tables::{Asked, FILL};
 
 // A long text is shown by its beginning.
 const LONG: usize = 80;
@@ -21,13 +21,6 @@ const LINE: usize = 128;
 // What most calls on records are lent.
 const LINE_ROOM: usize = 64;
 
-// The calls that are shown.
-#[derive(Clone, Copy, Debug, PartialEq, Eq)]
-enum Asked {
-    Declaration(Call),
-    Kind,
-}
-
 const GENERAL: Asked = Asked::Declaration(Call::General);
 
 const FUNCTION: Asked = Asked::Declaration(Call::Function);
@@ -39,26 +32,6 @@ const EVENT: Asked = Asked::Declaration(Call::Event);
 const ERROR: Asked = Asked::Declaration(Call::Error);
 
 const KIND: Asked = Asked::Kind;
-
-impl fmt::Display for Asked {
-    fn fmt<W: fmt::Write>(&self, f: &mut fmt::Formatter<W>) -> fmt::Result {
-        f.write_str(match self {
-            Asked::Declaration(Call::General) => "general",
-            Asked::Declaration(Call::Function) => "function",
-            Asked::Declaration(Call::Constructor) => "constructor",
-            Asked::Declaration(Call::Event) => "event",
-            Asked::Declaration(Call::Error) => "error",
-            Asked::Kind => "kind",
-        })
-    }
-}
-
-fn ask(asked: Asked, text: &[u8], out: &mut [u8]) -> Answer {
-    match asked {
-        Asked::Declaration(call) => declaration::read(call, text, out),
-        Asked::Kind => kind_call::parse_kind(text, out),
-    }
-}
 
 // Printable bytes as they are, any other as `\x` and two digits.
 fn print_characters<P: Print>(rt: &P, text: &[u8]) -> io::Result<()> {
@@ -91,7 +64,7 @@ fn row<P: Print>(rt: &P, asked: Asked, text: &[u8]) -> io::Result<()> {
     tables::show_answer::<AMPLE, _, _, _>(
         rt,
         AMPLE,
-        |out| ask(asked, text, out),
+        |out| tables::ask(asked, text, out),
         tables::print_hex,
     )?;
     print!(rt; "\n")
@@ -102,7 +75,12 @@ fn row_in<P: Print>(rt: &P, room: usize, asked: Asked, text: &[u8]) -> io::Resul
     print!(rt; "{asked}")?;
     print_text(rt, text)?;
     print!(rt; " in {room}")?;
-    tables::show_answer::<LINE, _, _, _>(rt, room, |out| ask(asked, text, out), tables::print_hex)?;
+    tables::show_answer::<LINE, _, _, _>(
+        rt,
+        room,
+        |out| tables::ask(asked, text, out),
+        tables::print_hex,
+    )?;
     print!(rt; "\n")
 }
 
@@ -143,11 +121,15 @@ fn kind_order<P: Print>(rt: &P) -> io::Result<()> {
 }
 
 // Room that is short, that fits and that is left over.
+fn in_rooms<P: Print>(rt: &P, rooms: [usize; 4], asked: Asked, text: &[u8]) -> io::Result<()> {
+    for room in rooms {
+        row_in(rt, room, asked, text)?;
+    }
+    Ok(())
+}
+
 fn kind_room<P: Print>(rt: &P) -> io::Result<()> {
-    row_in(rt, 0, KIND, b"string[]")?;
-    row_in(rt, 25, KIND, b"string[]")?;
-    row_in(rt, 26, KIND, b"string[]")?;
-    row_in(rt, 27, KIND, b"string[]")
+    in_rooms(rt, [0, 25, 26, 27], KIND, b"string[]")
 }
 
 // The edges of declarations that the proved table does not have.
@@ -200,10 +182,7 @@ fn refusals<P: Print>(rt: &P) -> io::Result<()> {
 }
 
 fn room<P: Print>(rt: &P) -> io::Result<()> {
-    row_in(rt, 0, GENERAL, b"function f()")?;
-    row_in(rt, 26, GENERAL, b"function f()")?;
-    row_in(rt, 27, GENERAL, b"function f()")?;
-    row_in(rt, 28, GENERAL, b"function f()")
+    in_rooms(rt, [0, 26, 27, 28], GENERAL, b"function f()")
 }
 
 // 32 tuples that nest are read in every list, and a 33rd is not, also behind a sibling.
@@ -243,7 +222,7 @@ fn row_deep<P: Print>(
     print_characters(rt, after)?;
     print!(rt; "\"")?;
     let mut buffer = [FILL; AMPLE];
-    match ask(asked, &text, &mut buffer) {
+    match tables::ask(asked, &text, &mut buffer) {
         Ok(length) => {
             print!(rt; " ok {length}")?;
             tables::print_damage(rt, buffer.get(length..).unwrap_or(b""))?;
@@ -253,23 +232,16 @@ fn row_deep<P: Print>(
     print!(rt; "\n")
 }
 
-// Writes as much as there is room for.
-fn put(text: &mut ArrayVec<u8, LINE>, bytes: &[u8]) {
-    for &byte in bytes {
-        let _ = text.try_push(byte);
-    }
-}
-
 fn write_deep(before: &[u8], tuples: usize, after: &[u8]) -> ArrayVec<u8, LINE> {
     let mut text = ArrayVec::<u8, LINE>::new();
-    put(&mut text, before);
+    tables::put(&mut text, before);
     for _ in 0..tuples {
-        put(&mut text, b"(");
+        tables::put(&mut text, b"(");
     }
     for _ in 0..tuples {
-        put(&mut text, b")");
+        tables::put(&mut text, b")");
     }
-    put(&mut text, after);
+    tables::put(&mut text, after);
     text
 }
 
@@ -322,8 +294,10 @@ fn line_row_in<P: Print>(rt: &P, room: usize, line: Line, record: &[u8]) -> io::
 }
 
 fn name_row<P: Print>(rt: &P, record: &[u8]) -> io::Result<()> {
-    let mut number = 99;
-    let name = abi::name(record, &mut number);
+    let (number, name) = match abi::name(record) {
+        Ok(name) => (0, name),
+        Err(refusal) => (u32::from(refusal), &record[..0]),
+    };
     print!(rt; "  name {number} \"")?;
     print_characters(rt, name)?;
     print!(rt; "\"\n")
@@ -343,7 +317,7 @@ fn lines<P: Print>(rt: &P, asked: Asked, text: &[u8]) -> io::Result<()> {
     print_text(rt, text)?;
     print!(rt; "\n")?;
     let mut buffer = [FILL; AMPLE];
-    match ask(asked, text, &mut buffer) {
+    match tables::ask(asked, text, &mut buffer) {
         Ok(length) => lines_of(rt, buffer.get(..length).unwrap_or(b"")),
         Err(_) => print!(rt; "  none\n"),
     }

@@ -1,3 +1,2 @@
 pub mod Caps
-pub mod Steps
 pub mod Reaches

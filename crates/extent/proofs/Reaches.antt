@@ -1,31 +1,33 @@
 -- Whether kinds are dynamic and how long their heads are, by what the code does for each record.
 -- Assumes nothing.
 use mathlib.Core.Path.{◌≡◌, refl, sym, ◌∙◌, ap}
-use mathlib.Core.Logic.{◌⊎◌, ⊎_elim}
 use mathlib.Core.Bool.{Bool, true, false, ◌||◌, or_assoc, or-false, or-true}
-use mathlib.Core.List.{List, ◌∷◌}
-use Prim.Native.Nat.{ℕ, ◌+◌, ◌*◌, ◌-◌, ◌≤◌, ◌<◌}
-use native.Mathlib.Nat.{zero-add}
+use mathlib.Core.List.{List, [], ◌∷◌, ◌++◌}
+use Rattle.std.specs.Prelude.{Option, Some, min}
+use Prim.Native.Nat.{ℕ, ◌+◌, ◌*◌, ◌^◌, ◌≤◌, ◌<◌}
 use native.Mathlib.Omega.{arith}
 use lib.ListN.{length, take, drop, length-drop}
-use lib.Seq.{length-take-le}
-use Rattle.kinds.specs.Kind.{Elementary, int, uint, fixed_bytes, address, bool, function, bytes, string, Suffix, sized, unsized, Kind, Kinds, no_kind, more_kinds}
+use lib.Seq.{take_all}
+use lib.Dec.{eqb, leb}
+use borrow.Author.Tests.{leb-true, eqb-true, le-leb, lt-leb}
+use Rattle.std.proofs.lemmas.Bool.{eqb-false}
+use Rattle.kinds.specs.Kind.{bits, octets, Elementary, int, uint, fixed_bytes, address, bool, function, bytes, string, Suffix, sized, unsized, Kind, Kinds, no_kind, more_kinds}
 use Rattle.model.specs.Tree.{Base, Field, field, Fields, no_field, more_fields, arrays, base_kind, kind_of, kinds_of}
 use Rattle.model.specs.Reading.{FieldKind}
-use Rattle.model.specs.Layout.{le_value}
-use Rattle.record.specs.declared.Spot.{Spot}
-use Rattle.record.specs.Encoded.{kind_in, FieldsAre, KindIs, SomeFields, SomeKind}
-use Rattle.record.proofs.Standing.{TupleThere, tuple-there, leaf-there, kind-least}
-use Rattle.record.proofs.Walk.{body-length}
+use Rattle.model.specs.Layout.{little_endian, le_value, record_of}
+use Rattle.model.specs.Record.{encode_elementary, encode_base, encode_suffixes, is_suffix}
+use Rattle.model.proofs.Pieces.{le_length, le_read}
+use Rattle.record.specs.declared.Piece.{Piece}
+use Rattle.record.specs.Parts.{PieceIs, Headed}
+use Rattle.record.specs.Encoded.{kind_in, FieldsAre, KindIs, SuffixesAre, SomeFields, SomeKind, SomeSuffixes}
+use Rattle.record.proofs.Standing.{Stands, stands, fields-headed, no-fields, first-field, field-long, named-headed, field-parts, kind-headed, kind-parts, suffixes-headed, no-suffixes, FirstSuffix, first-suffix, suffix_code, suffix_body}
 use Rattle.encoding.specs.Dynamic.{is_open_ended, is_dynamic, any_dynamic, static_length, head_length, heads_length}
 use Rattle.encoding.proofs.Lengths.{head-static, head-dynamic, all-static}
 use Rattle.words.specs.Places.{capped}
-use Rattle.words.proofs.Caps.{cap_same, cap_small}
 use Rattle.extent.specs.declared.Extent.{Extent}
-use Rattle.extent.specs.Walks.{elementary_code, tree_of, SuffixesAre, SomeSuffixes, FieldsAhead, KindAt, SuffixesAhead}
-use Rattle.extent.specs.Extents.{ExtentIs, OpenEnded, Grouped, Joined, Suffixed, AllSuffixed, ExtentOf, ExtentsOf}
-use Rattle.extent.proofs.Caps.{cap_cut, cap_times, cap_plus, plus_cap}
-use Rattle.extent.proofs.Steps.{suffix_code, suffix-code, suffix-least, suffix-inside, suffix-next, fixed-long, fixed-count, suffix-split, suffix-here, no_suffix, none_left, leaf-code, base-inside, base-suffixes}
+use Rattle.extent.specs.Walks.{elementary_code, elementary_body, tree_of}
+use Rattle.extent.specs.Extents.{ExtentIs, ExtentsAre, OpenEnded, SuffixIs, SomeSuffix, Grouped, Joined, Suffixed, AllSuffixed, ExtentOf, ExtentsOf}
+use Rattle.extent.proofs.Caps.{cap_times}
 
 -- One kind.
 
@@ -34,225 +36,172 @@ abbrev word-head : Extent
 word-head = record { dynamic = true; head = 32 }
 
 dynamic-head : (k : Kind) → is_dynamic k ≡ true → ExtentIs k word-head
-dynamic-head k h = record { dynamic = sym h; head = cap_same 32 (omega arith) ∙ ap capped (sym (head-dynamic k h)) }
+dynamic-head k h = record { dynamic = sym h; head = rw (head-dynamic k h) refl }
 
-sized-static : (k : Kind) (n : ℕ) (e : Extent) (h : ℕ) → ExtentIs k e → e.dynamic ≡ false → h ≡ capped (n * e.head) → ExtentIs (Kind.array k (sized n)) (record { dynamic = false; head = h })
-unfolding is_dynamic static_length
-sized-static k n e h x z g =
-    let s : is_dynamic k ≡ false = sym x.dynamic ∙ z in
-    record {
-      dynamic = sym s;
-      head = g ∙ ap (λ y. capped (n * y)) x.head ∙ cap_times n (head_length k) ∙ ap (λ y. capped (n * y)) (head-static k s) ∙ ap capped (sym (head-static (Kind.array k (sized n)) s));
-    }
+-- a number of eight bytes in a record's body
+pub counted : (body : List ℕ) (n : ℕ) → body ≡ little_endian 8 n → n < 2 ^ 64 → (8 ≤ length body) × (le_value (take 8 (drop 0 body)) ≡ n)
+counted body n e h =
+    let long : length body ≡ 8 = ap length e ∙ le_length 8 n in
+    (omega arith, ap le_value (take_all 8 body (omega arith) ∙ e) ∙ le_read 8 n h)
 
-sized-dynamic : (k : Kind) (n : ℕ) (e : Extent) → ExtentIs k e → e.dynamic ≡ true → ExtentIs (Kind.array k (sized n)) e
-unfolding is_dynamic
-sized-dynamic k n e x z =
-    let s : is_dynamic k ≡ true = sym x.dynamic ∙ z in
-    record { dynamic = x.dynamic; head = x.head ∙ ap capped (head-dynamic k s ∙ sym (head-dynamic (Kind.array k (sized n)) s)) }
+pub fixed-long : (p : Piece) → SomeSuffix p → (p.kind ≡ 11 → ⊥) → 8 ≤ length p.body.now
+fixed-long p (sized n, i) z = (counted p.body.now n i.1 i.2).0
+fixed-long p (unsized, i) z = absurd (z i)
 
--- Suffixes.
+module _ (p : Piece) (e : Extent) where
+  pub open_suffixed : p.kind ≡ 11 → Suffixed p e word-head
+  unfolding is_dynamic
+  open_suffixed z k (sized n) i x = absurd (omega (arith, i.0))
+  open_suffixed z k unsized i x = dynamic-head (Kind.array k unsized) refl
 
-module _ (b : List ℕ) (at : ℕ) where
-  pub ahead-least : SuffixesAhead b at → at + 6 ≤ length b
-  ahead-least q = let x = suffix-here b at q in suffix-least b at x.suffix x.rest x.is
+  pub dynamic-suffixed : (p.kind ≡ 11 → ⊥) → e.dynamic ≡ true → Suffixed p e e
+  unfolding is_dynamic
+  dynamic-suffixed z h k (sized n) i x =
+      let s : is_dynamic k ≡ true = sym x.dynamic ∙ h in
+      record { dynamic = x.dynamic; head = x.head ∙ ap capped (head-dynamic k s ∙ sym (head-dynamic (Kind.array k (sized n)) s)) }
+  dynamic-suffixed z h k unsized i x = absurd (z i)
 
-  module _ (c : ℕ) (g : c ≡ le_value (take 2 (drop (at + 4) b))) where
-    pub open_suffixed : c ≡ 11 → (e : Extent) → Suffixed b at e word-head
-    unfolding suffix_code is_dynamic
-    open_suffixed z e = record { all = λ k s ss i x. go k s ss i (suffix-code b at s ss i c g); small = omega arith }
-      where
-        go : (k : Kind) (s : Suffix) (ss : List Suffix) → SuffixesAre (drop at b) (s ∷ ss) → c ≡ suffix_code s → ExtentIs (Kind.array k s) word-head
-        go k (sized n) ss i f = absurd (omega arith)
-        go k unsized ss i f = dynamic-head (Kind.array k unsized) refl
+  pub static-suffixed : (p.kind ≡ 11 → ⊥) → e.dynamic ≡ false → (v h : ℕ) → v ≡ le_value (take 8 (drop 0 p.body.now)) → h ≡ capped (v * e.head)
+      → Suffixed p e (record { dynamic = false; head = h })
+  unfolding is_dynamic static_length
+  static-suffixed z d v h f g k (sized n) i x =
+      let s : is_dynamic k ≡ false = sym x.dynamic ∙ d in
+      let same : v ≡ n = f ∙ (counted p.body.now n i.1 i.2).1 in
+      record {
+        dynamic = sym s;
+        head = rw (head-static (Kind.array k (sized n)) s, ← head-static k s, ← cap_times n (head_length k), ← x.head, ← same) g;
+      }
+  static-suffixed z d v h f g k unsized i x = absurd (z i)
 
-    -- a fixed suffix
-    module _ (z : c ≡ 11 → ⊥) where
-      pub fixed-is : (s : Suffix) (ss : List Suffix) → SuffixesAre (drop at b) (s ∷ ss) → (n : ℕ) × (s ≡ sized n)
-      unfolding suffix_code
-      fixed-is (sized n) ss i = (n, refl)
-      fixed-is unsized ss i = absurd (z (suffix-code b at unsized ss i c g))
+-- Suffixes, innermost first.
 
-      pub fixed-least : SuffixesAhead b at → at + 14 ≤ length b
-      fixed-least q =
-          let x = suffix-here b at q in
-          let (n, f) = fixed-is x.suffix x.rest x.is in
-          fixed-long b at n x.rest (rw f at x.is)
+pub some : (b : List ℕ) → false ≡ eqb (length b) 0 → 0 < length b
+some b t = omega (arith, eqb-false (length b) 0 (sym t))
 
-      pub dynamic-suffixed : (e : Extent) → e.dynamic ≡ true → e.head ≤ 65537 → Suffixed b at e e
-      dynamic-suffixed e h l = record { all = λ k s ss i x. let (n, f) = fixed-is s ss i in rw f (sized-dynamic k n e x h); small = l }
+pub none : (b : List ℕ) → true ≡ eqb (length b) 0 → length b ≡ 0
+none b t = eqb-true (length b) 0 (sym t)
 
-      pub static-suffixed : (e : Extent) (v r : ℕ) → e.dynamic ≡ false → v ≡ le_value (take 8 (drop (at + 6) b)) → (r ≡ capped (v * e.head)) × (r ≤ 65537) → Suffixed b at e (record { dynamic = false; head = r })
-      static-suffixed e v r h p q = record {
-        all = λ k s ss i x.
-            let (n, f) = fixed-is s ss i in
-            let w : v ≡ n = fixed-count b at n ss (rw f at i) v p in
-            rw f (sized-static k n e r x h (q.0 ∙ ap (λ y. capped (y * e.head)) w));
-        small = q.1;
+pub suffix-is : (p : Piece) (ss : List Suffix) (f : FirstSuffix p ss) → SuffixIs p f.suffix
+suffix-is p ss f = go f.suffix f.kind f.body_is f.well
+  where
+    go : (s : Suffix) → p.kind ≡ suffix_code s → p.body.now ≡ suffix_body s → is_suffix s ≡ true → SuffixIs p s
+    go (sized n) k b w = (k, b, omega (arith, leb-true n _ w))
+    go unsized k b w = k
+
+-- what is told of the suffixes that are left is told of all of them
+pub record Wrapped (b : List ℕ) (base : Extent) (left : List ℕ) (e : Extent) : Type 0 where
+  pub ask : SomeSuffixes left
+  pub all : (r : Extent) → AllSuffixed left e r → AllSuffixed b base r
+
+module _ {b : List ℕ} {base : Extent} {left : List ℕ} {e : Extent} (w : Wrapped b base left e) where
+  pub wrap_end : true ≡ eqb (length left) 0 → AllSuffixed b base e
+  unfolding arrays
+  wrap_end t = w.all e (λ k ss i x. rw (no-suffixes left ss i (none left t)) x)
+
+  module _ (t : false ≡ eqb (length left) 0) where
+    pub wrap_headed : Headed left
+    wrap_headed = suffixes-headed left w.ask (some left t)
+
+    module _ {p : Piece} (j : PieceIs left (Some p)) where
+      pub wrap_suffix : SomeSuffix p
+      wrap_suffix = let f = first-suffix left p w.ask.0 w.ask.1 (some left t) j in (f.suffix, suffix-is p w.ask.0 f)
+
+      pub wrap_next : {r : Extent} → Suffixed p e r → Wrapped b base p.rest.now r
+      unfolding arrays
+      wrap_next s = record {
+        ask = let f = first-suffix left p w.ask.0 w.ask.1 (some left t) j in (f.suffixes, f.rest);
+        all = λ y u. w.all y (λ k ss i x.
+            let f = first-suffix left p ss i (some left t) j in
+            rw f.split (u (Kind.array k f.suffix) f.suffixes f.rest (s k f.suffix (suffix-is p ss f) x)));
       }
 
--- the loop over them
-pub record Wrapped (b : List ℕ) (base : Extent) (at : ℕ) (e : Extent) : Type 0 where
-  pub inside : at ≤ length b
-  pub ask : SomeSuffixes (drop at b)
-  pub small : e.head ≤ 65537
-  pub all : (k : Kind) (ss : List Suffix) → SuffixesAre b ss → ExtentIs k base → (j : Kind) × (os : List Suffix) × SuffixesAre (drop at b) os × ExtentIs j e × (arrays k ss ≡ arrays j os)
+-- Elementary kinds.
 
-pub wrap_start : (b : List ℕ) (base : Extent) → SomeSuffixes b → base.head ≤ 65537 → Wrapped b base 0 base
-wrap_start b base q h = record { inside = omega arith; ask = q; small = h; all = λ k ss i x. (k, ss, i, x, refl) }
+pub leaf_record : (x : Elementary) → (encode_elementary 4 x ≡ record_of 4 (elementary_code x) (elementary_body x)) × (elementary_code x < 9)
+unfolding encode_elementary elementary_code
+leaf_record (int (bits n)) = (refl, omega arith)
+leaf_record (uint (bits n)) = (refl, omega arith)
+leaf_record (fixed_bytes (octets n)) = (refl, omega arith)
+leaf_record address = (refl, omega arith)
+leaf_record bool = (refl, omega arith)
+leaf_record function = (refl, omega arith)
+leaf_record bytes = (refl, omega arith)
+leaf_record string = (refl, omega arith)
 
-module _ (b : List ℕ) (base : Extent) (at : ℕ) (e : Extent) (w : Wrapped b base at e) where
-  pub wrap_end : length b ≤ at → AllSuffixed b base e
-  unfolding arrays
-  wrap_end h = record {
-    all = λ k ss i x.
-        let (j, os, y, z, f) = w.all k ss i x in
-        let g : arrays k ss ≡ j = f ∙ ap (arrays j) (no_suffix b at os y h) in
-        rw g z;
-    small = w.small;
-  }
+open-code : (e : Elementary) → is_open_ended e ≡ leb 7 (elementary_code e)
+unfolding elementary_code is_open_ended
+open-code (int w) = refl
+open-code (uint w) = refl
+open-code (fixed_bytes m) = refl
+open-code address = refl
+open-code bool = refl
+open-code function = refl
+open-code bytes = refl
+open-code string = refl
 
-  module _ (h : at < length b) where
-    pub wrap_ahead : SuffixesAhead b at
-    wrap_ahead = (h, w.ask)
+pub open_ended : (k : ℕ) → 7 ≤ k → OpenEnded k true
+open_ended k h e f = rw (open-code e, ← f) (sym (le-leb 7 k h))
 
-    module _ (l : ℕ) (g : l ≡ le_value (take 4 (drop at b))) where
-      pub wrap_inside : (6 ≤ l) × (at + l ≤ length b)
-      wrap_inside = let x = suffix-here b at wrap_ahead in suffix-inside b at x.suffix x.rest x.is l g
+pub not_open_ended : (k : ℕ) → (k ≡ 7 → ⊥) → (k ≡ 8 → ⊥) → OpenEnded k false
+not_open_ended k y z e f = rw (open-code e, ← f) (sym (lt-leb 7 k (omega (arith, (leaf_record e).1))))
 
-      pub wrap_next : (r : Extent) → Suffixed b at e r → Wrapped b base (at + l) r
-      unfolding arrays
-      wrap_next r p =
-          let x = suffix-here b at wrap_ahead in
-          record {
-            inside = wrap_inside.1;
-            ask = (x.rest, suffix-next b at x.suffix x.rest x.is l g);
-            small = p.small;
-            all = λ k ss i y.
-                let (j, os, u, z, f) = w.all k ss i y in
-                let (s, ts, c, v) = suffix-split b at h os u in
-                (Kind.array j s, ts, suffix-next b at s ts v l g, p.all j s ts v z, f ∙ ap (arrays j) c);
-          }
+-- the number and the body of an elementary kind's record
+pub leaf-stands : (t : List ℕ) (p : Piece) (k : FieldKind) (x : Elementary) → KindIs t k → PieceIs t (Some p) → k.base ≡ Base.elementary x
+    → Stands p (elementary_code x) (elementary_body x) (encode_suffixes 4 k.suffixes)
+unfolding encode_base
+leaf-stands t p k x i j e =
+    let r : List ℕ = encode_suffixes 4 k.suffixes in
+    let (same, small) = leaf_record x in
+    stands t (elementary_code x) (elementary_body x) r (i.same ∙ ap (λ b. encode_base 4 b ++ r) e ∙ ap (λ y. y ++ r) same) (omega arith) i.small p j
 
 -- Tuples and lists.
 
-pub open_ended : (k : ℕ) → (k ≡ 7) ⊎ (k ≡ 8) → OpenEnded k true
-unfolding elementary_code is_open_ended
-open_ended k z e f = go e z f
-  where
-    go : (e : Elementary) → (k ≡ 7) ⊎ (k ≡ 8) → k ≡ elementary_code e → true ≡ is_open_ended e
-    go (int w) z f = absurd (⊎_elim (λ x. omega arith) (λ x. omega arith) z)
-    go (uint w) z f = absurd (⊎_elim (λ x. omega arith) (λ x. omega arith) z)
-    go (fixed_bytes m) z f = absurd (⊎_elim (λ x. omega arith) (λ x. omega arith) z)
-    go address z f = absurd (⊎_elim (λ x. omega arith) (λ x. omega arith) z)
-    go bool z f = absurd (⊎_elim (λ x. omega arith) (λ x. omega arith) z)
-    go function z f = absurd (⊎_elim (λ x. omega arith) (λ x. omega arith) z)
-    go bytes z f = refl
-    go string z f = refl
-
-pub not_open_ended : (k : ℕ) → (k ≡ 7 → ⊥) → (k ≡ 8 → ⊥) → OpenEnded k false
-unfolding elementary_code is_open_ended
-not_open_ended k y z (int w) f = refl
-not_open_ended k y z (uint w) f = refl
-not_open_ended k y z (fixed_bytes m) f = refl
-not_open_ended k y z address f = refl
-not_open_ended k y z bool f = refl
-not_open_ended k y z function f = refl
-not_open_ended k y z bytes f = absurd (y f)
-not_open_ended k y z string f = absurd (z f)
-
 module _ (e : Extent) where
-  pub group-dynamic : e.dynamic ≡ true → Grouped e word-head × (32 ≤ 65537)
+  pub group-dynamic : e.dynamic ≡ true → Grouped e word-head
   unfolding is_dynamic
-  group-dynamic h = (λ ks x. dynamic-head (Kind.tuple ks) (sym x.dynamic ∙ h), omega arith)
+  group-dynamic h ks x = dynamic-head (Kind.tuple ks) (sym x.dynamic ∙ h)
 
-  pub group-static : e.dynamic ≡ false → e.head ≤ 65537 → Grouped e e × (e.head ≤ 65537)
+  pub group-static : e.dynamic ≡ false → Grouped e e
   unfolding is_dynamic static_length
-  group-static h l = (
-    λ ks x.
-        let s : any_dynamic ks ≡ false = sym x.dynamic ∙ h in
-        record { dynamic = x.dynamic; head = x.head ∙ ap capped (all-static ks s ∙ sym (head-static (Kind.tuple ks) s)) },
-    l,
-  )
-
-module _ (e one : Extent) (h : ℕ) (g : h ≡ capped (e.head + one.head)) where
-  pub join_dynamic : one.dynamic ≡ true → Joined e one (record { dynamic = true; head = h }) × (h ≤ 65537)
-  join_dynamic z = (record { dynamic = sym (or-true e.dynamic) ∙ ap (λ x. e.dynamic || x) (sym z); head = g }, omega (arith, g, cap_small (e.head + one.head)))
-
-  pub join_static : one.dynamic ≡ false → Joined e one (record { dynamic = e.dynamic; head = h }) × (h ≤ 65537)
-  join_static z = (record { dynamic = sym (or-false e.dynamic) ∙ ap (λ x. e.dynamic || x) (sym z); head = g }, omega (arith, g, cap_small (e.head + one.head)))
+  group-static h ks x =
+      let s : any_dynamic ks ≡ false = sym x.dynamic ∙ h in
+      record { dynamic = x.dynamic; head = x.head ∙ ap capped (all-static ks s ∙ sym (head-static (Kind.tuple ks) s)) }
 
 -- A base and its suffixes.
 
-module _ (t : List ℕ) (q : SomeKind t) where
-  pub kind-long : 6 ≤ length t
-  kind-long = kind-least t q.0 q.1
+module _ {t : List ℕ} {p : Piece} (j : PieceIs t (Some p)) where
+  abbrev Based : Extent → Type 0
+  Based e = (k : FieldKind) → KindIs t k → ExtentIs (base_kind k.base) e
 
-  module _ (n : ℕ) (e : n ≡ le_value (take 4 (drop 0 t))) where
-    pub kind-inside : (6 ≤ n) × (n ≤ length t)
-    kind-inside = base-inside t q.0 q.1 n e
+  pub tuple-asks : p.kind ≡ 9 → SomeKind t → SomeFields p.body.now
+  tuple-asks z (k, i) = let s = (kind-parts t p k i j).nested z in (s.fields, s.is)
 
-    pub kind-suffixes : SomeSuffixes (take (length t - n) (drop n t))
-    kind-suffixes = (q.0.suffixes, base-suffixes t q.0 q.1 n e)
+  pub tuple_extent : p.kind ≡ 9 → {x y : Extent} → ExtentsOf p.body.now x → Grouped x y → Based y
+  unfolding base_kind
+  tuple_extent z u v k i = let s = (kind-parts t p k i j).nested z in rw s.split (v (kinds_of s.fields) (u.all s.fields s.is))
 
-    module _ (k : ℕ) (f : k ≡ le_value (take 2 (drop 4 t))) where
-      module _ (z : k ≡ 9) where
-        its-tuple : (j : FieldKind) → KindIs t j → TupleThere t j n
-        its-tuple j i = tuple-there t j i k f z n e
+  pub leaf_extent : (p.kind ≡ 9 → ⊥) → {d : Bool} → OpenEnded p.kind d → Based (record { dynamic = d; head = 32 })
+  unfolding base_kind is_dynamic head_length static_length
+  leaf_extent z o k i =
+      let s = (kind-parts t p k i j).leaf z in
+      rw s.split (record { dynamic = o s.leaf (leaf-stands t p k s.leaf i j s.split).kind; head = ap capped (word (is_open_ended s.leaf)) })
+    where
+      word : (b : Bool) → ◌≡◌ {A = ℕ} 32 (elim b [ true ↦ 32 | false ↦ 32 ])
+      word true = refl
+      word false = refl
 
-        pub tuple-asks : SomeFields (take (n - 6) (drop 6 t))
-        tuple-asks = let x = its-tuple q.0 q.1 in (x.fields, x.is)
+  pub suffixes-ask : SomeKind t → SomeSuffixes p.rest.now
+  suffixes-ask (k, i) = (k.suffixes, (kind-parts t p k i j).suffixes)
 
-        pub tuple-less : length (take (n - 6) (drop 6 t)) < length t
-        tuple-less = omega (arith, body-length t n kind-inside.1, kind-inside)
-
-        tuple-kind : (b : Base) (fs : Fields) → b ≡ Base.tuple fs → base_kind b ≡ Kind.tuple (kinds_of fs)
-        unfolding base_kind
-        tuple-kind b fs g = ap base_kind g
-
-        pub tuple_extent : (x y r : Extent) → ExtentsOf (take (n - 6) (drop 6 t)) x → Grouped x y × (y.head ≤ 65537) → AllSuffixed (take (length t - n) (drop n t)) y r → ExtentOf t r
-        tuple_extent x y r u v w = record {
-          all = λ j i.
-              let s = its-tuple j i in
-              let g = tuple-kind j.base s.fields s.split in
-              rw g (w.all (Kind.tuple (kinds_of s.fields)) j.suffixes (base-suffixes t j i n e) (v.0 (kinds_of s.fields) (u.all s.fields s.is)));
-          small = w.small;
-        }
-
-      leaf-kind : (b : Base) (x : Elementary) → b ≡ Base.elementary x → base_kind b ≡ Kind.elementary x
-      unfolding base_kind
-      leaf-kind b x g = ap base_kind g
-
-      leaf-reach : (x : Elementary) (d : Bool) → d ≡ is_open_ended x → ExtentIs (Kind.elementary x) (record { dynamic = d; head = 32 })
-      unfolding is_dynamic head_length static_length
-      leaf-reach x d g = record { dynamic = g; head = cap_same 32 (omega arith) ∙ ap capped (go (is_open_ended x)) }
-        where
-          go : (b : Bool) → ◌≡◌ {A = ℕ} 32 (elim b [ true ↦ 32 | false ↦ 32 ])
-          go true = refl
-          go false = refl
-
-      pub leaf_extent : (k ≡ 9 → ⊥) → (d : Bool) → OpenEnded k d → (r : Extent) → AllSuffixed (take (length t - n) (drop n t)) (record { dynamic = d; head = 32 }) r → ExtentOf t r
-      leaf_extent z d o r w = record {
-        all = λ j i.
-            let (x, g) = leaf-there t j i k f z in
-            let h = leaf-kind j.base x g in
-            rw h (w.all (Kind.elementary x) j.suffixes (base-suffixes t j i n e) (leaf-reach x d (o x (leaf-code t j i x g k f))));
-        small = w.small;
-      }
+  pub kind_extent : SomeKind t → {e r : Extent} → Based e → AllSuffixed p.rest.now e r → ExtentOf t r
+  kind_extent q {e} {r} x w =
+      let all : (k : FieldKind) → KindIs t k → ExtentIs (tree_of k) r = λ k i. w (base_kind k.base) k.suffixes (kind-parts t p k i j).suffixes (x k i) in
+      record { all = all; small = omega (arith, (all q.0 q.1).head) }
 
 -- Fields.
 
-pub record Reached (b : List ℕ) (at : ℕ) (e : Extent) : Type 0 where
-  pub inside : at ≤ length b
-  pub ask : SomeFields (drop at b)
-  pub small : e.head ≤ 65537
-  pub all : (fs : Fields) → FieldsAre b fs → (gs : Fields) × FieldsAre (drop at b) gs × ((e.dynamic || any_dynamic (kinds_of gs)) ≡ any_dynamic (kinds_of fs)) × (capped (e.head + heads_length (kinds_of gs)) ≡ capped (heads_length (kinds_of fs)))
-
-pub reach-start : (b : List ℕ) → SomeFields b → Reached b 0 (record { dynamic = false; head = 0 })
-reach-start b q = record { inside = omega arith; ask = q; small = omega arith; all = λ fs i. (fs, i, refl, ap capped (zero-add (heads_length (kinds_of fs)))) }
-
 -- the kind of a field
-pub field-tree : (f : Field) → kind_of f ≡ tree_of (kind_in f)
+field-tree : (f : Field) → kind_of f ≡ tree_of (kind_in f)
 unfolding kind_of
 field-tree (field m nm b ss) = refl
 
@@ -260,63 +209,89 @@ pub more-fields : (gs : Fields) (f : Field) (fs : Fields) → gs ≡ more_fields
 unfolding kinds_of
 more-fields gs f fs e = ap kinds_of e ∙ ap (λ k. more_kinds k (kinds_of fs)) (field-tree f)
 
-pub no_fields : (gs : Fields) → gs ≡ no_field → kinds_of gs ≡ no_kind
+-- of no field
+pub no_fields : (b : List ℕ) (fs : Fields) → FieldsAre b fs → length b ≡ 0 → kinds_of fs ≡ no_kind
 unfolding kinds_of
-no_fields gs e = ap kinds_of e
+no_fields b fs i h = ap kinds_of (no-fields b fs i h)
 
-pub ends-none : (ks : Kinds) → ks ≡ no_kind → (any_dynamic ks ≡ false) × (heads_length ks ≡ 0)
-unfolding any_dynamic heads_length
-ends-none ks e = (ap any_dynamic e, ap heads_length e)
+-- the kind of the first field of some, and the others
+pub record Ahead (p n : Piece) (fs : Fields) : Type 0 where
+  pub kind : FieldKind
+  pub fields : Fields
+  pub kinds : kinds_of fs ≡ more_kinds (tree_of kind) (kinds_of fields)
+  pub is : KindIs n.rest.now kind
+  pub rest : FieldsAre p.rest.now fields
 
-pub goes-more : (ks : Kinds) (k : Kind) (js : Kinds) → ks ≡ more_kinds k js → (any_dynamic ks ≡ (is_dynamic k || any_dynamic js)) × (heads_length ks ≡ head_length k + heads_length js)
-unfolding any_dynamic heads_length
-goes-more ks k js e = (ap any_dynamic e, ap heads_length e)
+module _ (b : List ℕ) (h : 0 < length b) (p : Piece) (j : PieceIs b (Some p)) where
+  pub ahead-named : SomeFields b → (2 ≤ length p.body.now) × Headed (drop 2 p.body.now)
+  ahead-named (fs, i) =
+      let f = first-field b p fs i h j in
+      (omega (arith, field-long p.body.now f.field f.is), named-headed p.body.now (f.field, f.is))
 
-module _ (b : List ℕ) (at : ℕ) (e : Extent) (w : Reached b at e) where
-  pub reach-end : length b ≤ at → ExtentsOf b e
-  reach-end h = record {
-    all = λ fs i.
-        let (gs, j, p, q) = w.all fs i in
-        let z = ends-none (kinds_of gs) (no_fields gs (none_left b at gs j h)) in
-        let sum : e.head + heads_length (kinds_of gs) ≡ e.head = omega (arith, z.1) in
-        record { dynamic = sym (or-false e.dynamic) ∙ ap (λ x. e.dynamic || x) (sym z.0) ∙ p; head = cap_cut e.head w.small ∙ ap capped (sym sum) ∙ q };
-    small = w.small;
-  }
+  module _ (n : Piece) (l : PieceIs (drop 2 p.body.now) (Some n)) where
+    pub ahead : (fs : Fields) → FieldsAre b fs → Ahead p n fs
+    ahead fs i =
+        let f = first-field b p fs i h j in
+        record {
+          kind = kind_in f.field;
+          fields = f.fields;
+          kinds = more-fields fs f.field f.fields f.split;
+          is = (field-parts p.body.now n f.field f.is l).kind;
+          rest = f.rest;
+        }
 
-  module _ (h : at < length b) where
-    pub reach-ahead : FieldsAhead b at
-    reach-ahead = (h, w.ask)
+    pub ahead-less : length n.rest.now < length b
+    ahead-less = omega (arith, j.covers, l.covers, length-drop 2 p.body.now)
 
-    module _ (s : Spot) (k : KindAt b at s) where
-      abbrev part : List ℕ
-      part = take (s.to - s.from) (drop s.from b)
+-- the kinds of fields behind kinds that reach as far as e
+pub record From (e : Extent) (b : List ℕ) (r : Extent) : Type 0 where
+  pub all : (fs : Fields) → FieldsAre b fs → (r.dynamic ≡ (e.dynamic || any_dynamic (kinds_of fs))) × (r.head ≡ capped (e.head + heads_length (kinds_of fs)))
+  pub small : r.head ≤ 65537
 
-      pub reach-asks : SomeKind part
-      reach-asks = let x = k.all w.ask.0 w.ask.1 in (kind_in x.field, x.is)
+pub record Reached (b left : List ℕ) (e : Extent) : Type 0 where
+  pub ask : SomeFields left
+  pub inside : length left ≤ length b
+  pub small : e.head ≤ 65537
+  pub all : (r : Extent) → From e left r → ExtentsOf b r
 
-      pub reach-less : length part < length b
-      reach-less = omega (arith, length-take-le (s.to - s.from) (drop s.from b) (rw length-drop (omega (arith, k.inside))), k.low, k.least, k.inside)
+module _ {b left : List ℕ} {e : Extent} (w : Reached b left e) where
+  pub reach-end : true ≡ eqb (length left) 0 → ExtentsOf b e
+  unfolding any_dynamic heads_length
+  reach-end t = w.all e (record { all = λ fs i. rw (no_fields left fs i (none left t)) (sym (or-false e.dynamic), omega (arith, w.small)); small = w.small })
 
-      pub reach-next : (one r : Extent) → ExtentOf part one → Joined e one r × (r.head ≤ 65537) → Reached b s.to r
-      reach-next one r x y = record {
-        inside = k.inside;
-        ask = let z = k.all w.ask.0 w.ask.1 in (z.fields, z.rest);
-        small = y.1;
-        all = λ fs i.
-            let (gs, j, p, q) = w.all fs i in
-            let z = k.all gs j in
-            let o = x.all (kind_in z.field) z.is in
-            let m = goes-more (kinds_of gs) (tree_of (kind_in z.field)) (kinds_of z.fields) (more-fields gs z.field z.fields z.split) in
-            (z.fields, z.rest, wide (tree_of (kind_in z.field)) (kinds_of z.fields) (kinds_of gs) one r o y.0 m.0 ∙ p, long (tree_of (kind_in z.field)) (kinds_of z.fields) (kinds_of gs) one r o y.0 m.1 ∙ q);
-      }
-        where
-          wide : (k : Kind) (js ks : Kinds) (one r : Extent) → ExtentIs k one → Joined e one r → any_dynamic ks ≡ (is_dynamic k || any_dynamic js) → (r.dynamic || any_dynamic js) ≡ (e.dynamic || any_dynamic ks)
-          wide k js ks one r o y m = ap (λ x. x || any_dynamic js) (y.dynamic ∙ ap (λ x. e.dynamic || x) o.dynamic) ∙ or_assoc e.dynamic (is_dynamic k) (any_dynamic js) ∙ ap (λ x. e.dynamic || x) (sym m)
+  module _ (t : false ≡ eqb (length left) 0) where
+    pub reach-headed : Headed left
+    reach-headed = fields-headed left w.ask (some left t)
 
-          long : (k : Kind) (js ks : Kinds) (one r : Extent) → ExtentIs k one → Joined e one r → heads_length ks ≡ head_length k + heads_length js → capped (r.head + heads_length js) ≡ capped (e.head + heads_length ks)
-          long k js ks one r o y m =
-              let a : ℕ = e.head in
-              let c : ℕ = heads_length js in
-              let x : a + one.head + c ≡ a + c + one.head = omega arith in
-              let z : a + c + head_length k ≡ a + heads_length ks = omega (arith, m) in
-              ap (λ n. capped (n + c)) y.head ∙ plus_cap (a + one.head) c ∙ ap capped x ∙ ap (λ n. capped (a + c + n)) o.head ∙ cap_plus (a + c) (head_length k) ∙ ap capped z
+    module _ {p : Piece} (j : PieceIs left (Some p)) where
+      pub reach-named : (2 ≤ length p.body.now) × Headed (drop 2 p.body.now)
+      reach-named = ahead-named left (some left t) p j w.ask
+
+      module _ {n : Piece} (l : PieceIs (drop 2 p.body.now) (Some n)) where
+        pub reach-asks : SomeKind n.rest.now
+        reach-asks = let x = ahead left (some left t) p j n l w.ask.0 w.ask.1 in (x.kind, x.is)
+
+        pub reach-less : length n.rest.now < length b
+        reach-less = omega (arith, ahead-less left (some left t) p j n l, w.inside)
+
+        pub reach-next : {one r : Extent} → ExtentOf n.rest.now one → Joined e one r → Reached b p.rest.now r
+        unfolding any_dynamic heads_length
+        reach-next x y = record {
+          ask = let z = ahead left (some left t) p j n l w.ask.0 w.ask.1 in (z.fields, z.rest);
+          inside = omega (arith, j.covers, w.inside);
+          small = omega (arith, y.head);
+          all = λ a u. w.all a (record {
+            all = λ fs i.
+                let z = ahead left (some left t) p j n l fs i in
+                let o = x.all z.kind z.is in
+                let (f, g) = u.all z.fields z.rest in
+                rw z.kinds (
+                  f ∙ ap (λ q. q || any_dynamic (kinds_of z.fields)) (y.dynamic ∙ ap (λ q. e.dynamic || q) o.dynamic)
+                      ∙ or_assoc e.dynamic (is_dynamic (tree_of z.kind)) (any_dynamic (kinds_of z.fields)),
+                  omega (arith, g, y.head, o.head),
+                );
+            small = u.small;
+          });
+        }
+
+pub ruleset leaves = (open_ended, not_open_ended)

@@ -1,14 +1,16 @@
 -- What is told of kinds: whether they are dynamic, and how long their heads are, as far as lengths are told apart.
 -- Assumes nothing.
-use Rattle.std.specs.Prelude.{◌≡◌, Bool, ◌||◌, List, ◌∷◌, ℕ, ◌+◌, ◌≤◌, drop}
-use Rattle.kinds.specs.Kind.{Elementary, Suffix, Kind, Kinds}
+use Rattle.std.specs.Prelude.{◌≡◌, Bool, ◌||◌, List, ℕ, ◌+◌, ◌≤◌, ◌<◌, ◌^◌}
+use Rattle.kinds.specs.Kind.{Elementary, Suffix, sized, unsized, Kind, Kinds}
 use Rattle.model.specs.Tree.{Fields, arrays, kinds_of}
 use Rattle.model.specs.Reading.{FieldKind}
-use Rattle.record.specs.Encoded.{FieldsAre, KindIs}
+use Rattle.model.specs.Layout.{little_endian}
+use Rattle.record.specs.declared.Piece.{Piece}
+use Rattle.record.specs.Encoded.{FieldsAre, KindIs, SuffixesAre}
 use Rattle.encoding.specs.Dynamic.{is_open_ended, is_dynamic, any_dynamic, head_length, heads_length}
 use Rattle.words.specs.Places.{capped}
 use Rattle.extent.specs.declared.Extent.{Extent}
-use Rattle.extent.specs.Walks.{elementary_code, tree_of, SuffixesAre}
+use Rattle.extent.specs.Walks.{elementary_code, tree_of}
 
 -- of one kind
 pub record ExtentIs (k : Kind) (e : Extent) : Type 0 where
@@ -33,17 +35,23 @@ pub record Joined (e one r : Extent) : Type 0 where
   pub dynamic : r.dynamic ≡ (e.dynamic || one.dynamic)
   pub head : r.head ≡ capped (e.head + one.head)
 
--- an array: its suffix stands at a place of b
-pub record Suffixed (b : List ℕ) (at : ℕ) (e r : Extent) : Type 0 where
-  pub all : (k : Kind) (s : Suffix) (ss : List Suffix) → SuffixesAre (drop at b) (s ∷ ss) → ExtentIs k e → ExtentIs (Kind.array k s) r
-  pub small : r.head ≤ 65537
+-- p is a suffix's record: "A fixed suffix: 8 bytes. B open suffix: no body."
+abbrev pub SuffixIs : Piece → Suffix → Type 0
+SuffixIs p (sized n) = (p.kind ≡ 0xA) × (p.body.now ≡ little_endian 8 n) × (n < 2 ^ 64)
+SuffixIs p unsized = p.kind ≡ 0xB
+
+abbrev pub SomeSuffix : Piece → Type 0
+SomeSuffix p = (s : Suffix) × SuffixIs p s
+
+-- an array, by the record of its suffix
+abbrev pub Suffixed : Piece → Extent → Extent → Type 0
+Suffixed p e r = (k : Kind) (s : Suffix) → SuffixIs p s → ExtentIs k e → ExtentIs (Kind.array k s) r
 
 -- the same with all suffixes up to the end, innermost first
-pub record AllSuffixed (b : List ℕ) (e r : Extent) : Type 0 where
-  pub all : (k : Kind) (ss : List Suffix) → SuffixesAre b ss → ExtentIs k e → ExtentIs (arrays k ss) r
-  pub small : r.head ≤ 65537
+abbrev pub AllSuffixed : List ℕ → Extent → Extent → Type 0
+AllSuffixed b e r = (k : Kind) (ss : List Suffix) → SuffixesAre b ss → ExtentIs k e → ExtentIs (arrays k ss) r
 
--- what records of a base and its suffixes say, and of fields
+-- what records of a base and its suffixes say, and of fields; that heads are small follows, and is there for `omega` to find
 pub record ExtentOf (t : List ℕ) (e : Extent) : Type 0 where
   pub all : (k : FieldKind) → KindIs t k → ExtentIs (tree_of k) e
   pub small : e.head ≤ 65537

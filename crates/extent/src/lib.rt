@@ -2,144 +2,100 @@
 #![tactic(auto)]
 
 ghost use Rattle.std.specs.Prelude.{◌≡◌, ◌*◌, ◌≤◌};
-ghost use Rattle.record.specs.Encoded.{SomeFields, SomeKind};
+ghost use Rattle.record.specs.Encoded.{SomeFields, SomeKind, SomeSuffixes};
 ghost use Rattle.words.specs.Places.{capped};
-ghost use Rattle.extent.specs.Walks.{FieldsAhead, KindAt, SomeSuffixes, SuffixesAhead};
-ghost use Rattle.extent.specs.Extents.{OpenEnded, Grouped, Joined, Suffixed, AllSuffixed, ExtentOf, ExtentsOf};
+ghost use Rattle.extent.specs.Extents.{OpenEnded, SomeSuffix, Grouped, Joined, Suffixed, AllSuffixed, ExtentOf, ExtentsOf};
 
-use record::Spot;
-
-// A record begins with its length in four bytes and its kind in two.
-const KIND: usize = 4;
-
-const HEAD: usize = 6;
-
-// In a field a number of two bytes stands between the head and the name.
-const FRONT: usize = 8;
-
-// Kinds of record.
-const BYTES: usize = 0x7;
-
-const STRING: usize = 0x8;
-
-const TUPLE: usize = 0x9;
-
-const OPEN: usize = 0xB;
-
-// Lengths up to the limit are told apart; one more stands for every greater one.
-const LIMIT: u64 = 65536;
-
-const OVER: usize = 65537;
+use layout::{BYTES, OPEN, STRING, TUPLE};
+use record::Piece;
 
 // The head of a dynamic kind, and of every elementary one, is a word.
 const WORD: usize = 32;
 
+// So many times a length, capped as in crate words.
+pub fn times(length: usize, n: u64) -> usize
+    ensures { (result ≡ capped (n * length)) × (result ≤ 65537) }
+{
+    words::cap(length.saturating_mul(n as usize))
+}
+
 // Whether a kind is dynamic, and how long its head is; of several kinds, whether one is, and how long their heads are together.
-#[derive(Clone, Copy)]
+#[derive(Clone, Copy, Debug, PartialEq, Eq)]
 pub struct Extent {
     pub dynamic: bool,
     pub head: usize,
 }
 
-// So many times a length.
-pub fn times(length: usize, n: u64) -> usize
-    requires { length ≤ 65537 }
-    ensures { (result ≡ capped (n * length)) × (result ≤ 65537) }
-{
-    if length == 0 {
-        return 0;
+// Of a dynamic kind, and of no kinds.
+const DYNAMIC: Extent = Extent {
+    dynamic: true,
+    head: WORD,
+};
+
+const NONE: Extent = Extent {
+    dynamic: false,
+    head: 0,
+};
+
+impl Extent {
+    // Of a tuple of the kinds.
+    fn grouped(self) -> Extent
+        ensures { Grouped self result }
+    {
+        if self.dynamic { DYNAMIC } else { self }
     }
-    if LIMIT < n {
-        return OVER;
+
+    // With one kind more.
+    fn joined(self, one: Extent) -> Extent
+        requires { (self.head ≤ 65537) × (one.head ≤ 65537) }
+        ensures { Joined self one result }
+    {
+        Extent {
+            dynamic: self.dynamic || one.dynamic,
+            head: words::cap(self.head + one.head),
+        }
     }
-    words::cap(length * (n as usize))
+
+    // Of an array of the kind, by its suffix.
+    fn suffixed(self, suffix: Piece<'_>) -> Extent
+        requires { SomeSuffix suffix }
+        ensures { Suffixed suffix.entry self result }
+    {
+        if suffix.kind == OPEN {
+            return DYNAMIC;
+        }
+        if self.dynamic {
+            return self;
+        }
+        Extent {
+            dynamic: false,
+            head: times(self.head, layout::get8(suffix.body, 0)),
+        }
+    }
 }
 
-// Where the kind of the field whose record stands at a place begins and ends: it is the last of the field.
-pub fn kind_at(b: &[u8], at: usize) -> Spot
-    requires { FieldsAhead b.now at }
-    ensures { KindAt b.now at result }
+// With all suffixes, innermost first.
+fn all_suffixed(suffixes: &[u8], base: Extent) -> Extent
+    requires { SomeSuffixes suffixes.now }
+    ensures { AllSuffixed suffixes.now base result }
 {
-    let from = at + (FRONT + layout::get4(b, at + FRONT));
-    let to = at + layout::get4(b, at);
-    Spot { from, to }
-}
-
-// With one suffix more, which stands at a place.
-fn suffixed(b: &[u8], at: usize, e: Extent) -> Extent
-    requires { SuffixesAhead b.now at × (e.head ≤ 65537) }
-    ensures { Suffixed b.now at e result }
-{
-    if layout::get2(b, at + KIND) == OPEN {
-        return Extent {
-            dynamic: true,
-            head: WORD,
-        };
-    }
-    if e.dynamic {
-        return e;
-    }
-    Extent {
-        dynamic: false,
-        head: times(e.head, layout::get8(b, at + HEAD)),
-    }
-}
-
-// With the suffixes up to the end, innermost first.
-fn all_suffixed(b: &[u8], base: Extent) -> Extent
-    requires { SomeSuffixes b.now × (base.head ≤ 65537) }
-    ensures { AllSuffixed b.now base result }
-{
-    let mut at = 0;
+    let mut left = suffixes;
     let mut e = base;
-    while at < b.len() {
-        e = suffixed(b, at, e);
-        at += layout::get4(b, at);
+    // A walk over pieces: a loop (`record::Piece`).
+    while !left.is_empty() {
+        let suffix = Piece::first(left);
+        e = e.suffixed(suffix);
+        left = suffix.rest;
     }
     e
 }
 
 // Whether an elementary kind is dynamic, by the number of its record.
+#[tactic(auto, using(crate::proofs::Reaches::leaves))]
 fn is_open_ended(k: usize) -> bool
     ensures { OpenEnded k result }
 {
-    match k {
-        BYTES => true,
-        STRING => true,
-        _ => false,
-    }
-}
-
-// A tuple of kinds.
-fn grouped(e: Extent) -> Extent
-    requires { e.head ≤ 65537 }
-    ensures { Grouped e result × (result.head ≤ 65537) }
-{
-    if e.dynamic {
-        return Extent {
-            dynamic: true,
-            head: WORD,
-        };
-    }
-    e
-}
-
-// One kind more.
-fn joined(e: Extent, one: Extent) -> Extent
-    requires { (e.head ≤ 65537) × (one.head ≤ 65537) }
-    ensures { Joined e one result × (result.head ≤ 65537) }
-{
-    let head = words::cap(e.head + one.head);
-    if one.dynamic {
-        return Extent {
-            dynamic: true,
-            head,
-        };
-    }
-    Extent {
-        dynamic: e.dynamic,
-        head,
-    }
+    matches!(k, BYTES | STRING)
 }
 
 // Of a base and its suffixes.
@@ -148,21 +104,15 @@ pub fn of_kind(t: &[u8]) -> Extent
     requires { SomeKind t.now }
     ensures { ExtentOf t.now result }
 {
-    let n = layout::get4(t, 0);
-    let k = layout::get2(t, KIND);
-    match k {
-        TUPLE => {
-            let e = grouped(of_fields(&t[HEAD..n]));
-            all_suffixed(&t[n..], e)
-        }
-        _ => {
-            let e = Extent {
-                dynamic: is_open_ended(k),
-                head: WORD,
-            };
-            all_suffixed(&t[n..], e)
-        }
-    }
+    let base = Piece::first(t);
+    let e = match base.kind {
+        TUPLE => of_fields(base.body).grouped(),
+        k => Extent {
+            dynamic: is_open_ended(k),
+            head: WORD,
+        },
+    };
+    all_suffixed(base.rest, e)
 }
 
 // Of the fields up to the end.
@@ -171,17 +121,13 @@ pub fn of_fields(b: &[u8]) -> Extent
     requires { SomeFields b.now }
     ensures { ExtentsOf b.now result }
 {
-    let mut at = 0;
-    let mut e = Extent {
-        dynamic: false,
-        head: 0,
-    };
-    while at < b.len() {
-        let k = kind_at(b, at);
-        let from = k.from;
-        let to = k.to;
-        e = joined(e, of_kind(&b[from..to]));
-        at = to;
+    let mut left = b;
+    let mut e = NONE;
+    // A walk over pieces: a loop (`record::Piece`).
+    while !left.is_empty() {
+        let field = Piece::first(left);
+        e = e.joined(of_kind(record::named(field.body).rest));
+        left = field.rest;
     }
     e
 }

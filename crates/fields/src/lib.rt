@@ -1,5 +1,6 @@
 // The field, tuple and list readers: one pass over the text into a buffer of the caller's that has room. A reader is lent the buffer from where its
-// record begins. What a failed reading leaves in it is not told.
+// record begins. What a failed reading leaves in it is not told. A reader takes the text and a place in it, not what is left of it: refusals stand at
+// places, and so do the definitions.
 #![tactic(auto)]
 
 ghost use Rattle.std.specs.Prelude.{◌≡◌, suc, ◌+◌, ◌^◌, ◌≤◌, ◌<◌, length};
@@ -24,7 +25,7 @@ pub fn word_end(s: &[u8], a: usize) -> usize
 }
 
 // A word and the place behind it.
-#[derive(Clone, Copy)]
+#[derive(Clone, Copy, Debug, PartialEq, Eq)]
 pub struct Word<'a> {
     pub bytes: &'a [u8],
     pub next: usize,
@@ -133,7 +134,7 @@ fn attribute(word: &[u8]) -> Option<Mark>
 }
 
 // What stands behind a kind: a mark and a name, both optional, and the place behind them.
-#[derive(Clone, Copy)]
+#[derive(Clone, Copy, Debug, PartialEq, Eq)]
 pub struct Named<'a> {
     pub mark: Mark,
     pub name: &'a [u8],
@@ -170,7 +171,7 @@ pub struct Got {
     pub len: usize,
 }
 
-// Why a reading fails and where; or where one tuple too many opens.
+// Why a reading fails and where; or where one tuple too many opens: two errors, since a list passes over the first.
 #[derive(Clone, Copy, Debug, PartialEq, Eq)]
 pub enum Failed {
     Bad(Refused),
@@ -221,7 +222,7 @@ fn array_suffix(s: &[u8], at: usize) -> Option<Bracket>
     Some(Bracket { suffix, next })
 }
 
-// A tuple's suffixes, written one behind the other.
+// A tuple's suffixes, written one behind the other: a loop, since what is no suffix ends it.
 #[tactic(auto, using(crate::proofs::Growing::growing))]
 fn suffixes(s: &[u8], at: usize, out: &mut [u8]) -> Got
     requires { Room 0 0 s.now at out.old }
@@ -319,7 +320,7 @@ fn tuple(s: &[u8], at: usize, d: usize, out: &mut [u8]) -> Read
 }
 
 // The fields of a list of a sort behind its `(`, up to its `)`, where d tuples may open. Where a field fails, the list closes behind the field
-// before it.
+// before it: a loop with three ends.
 #[cycle(field_list_tuple)]
 pub fn list(s: &[u8], at: usize, sort: Sort, d: usize, out: &mut [u8]) -> Read
     requires { Room 0 d s.now at out.old }

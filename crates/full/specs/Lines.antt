@@ -1,81 +1,92 @@
--- What the lines ask of a record that was checked, and what they leave.
+-- The line that a record stands for, and what its writers ask and leave.
 -- Assumes nothing.
-use Rattle.std.specs.Prelude.{◌≡◌, Bool, List, ◌++◌, ℕ, ◌+◌, ◌*◌, ◌-◌, ◌≤◌, leb, length, take, drop}
+use Rattle.std.specs.Prelude.{◌≡◌, Bool, true, false, List, ◌++◌, ℕ, ◌+◌, ◌*◌, ◌≤◌, leb, eqb, length, Option, None, Some}
 use Rattle.kinds.specs.Kind.{Kind, kind_text}
-use Rattle.model.specs.Tree.{Fields, kinds_of}
+use Rattle.model.specs.Tree.{Fields, no_field, kinds_of, Declaration}
 use Rattle.model.specs.Record.{longest_record}
-use Rattle.model.specs.Full.{bracketed, returns_text}
-use Rattle.model.specs.Answer.{writes, Answer}
-use Rattle.layout.specs.Answers.{Ends}
-use Rattle.record.specs.declared.Spot.{Spot}
+use Rattle.model.specs.Full.{bracketed, returns_text, full_text}
 use Rattle.record.specs.declared.Measured.{Measured}
-use Rattle.record.specs.Says.{NameSaid}
-use Rattle.record.specs.Encoded.{FieldsAre, SomeFields}
-use Rattle.full.specs.Parts.{PutIn}
+use Rattle.abi.specs.Writes.{Put}
+use Rattle.full.specs.declared.Line.{Line}
+use Rattle.full.specs.Parts.{ListIs}
 
--- the bytes from a place up to another
-abbrev pub spot : List ℕ → ℕ → ℕ → List ℕ
-spot b from to = take (to - from) (drop from b)
-
--- the records of the fields fs stand at a place of the record b, and how long their kinds are in brackets
-pub record Listed (b : List ℕ) (l : Measured) (fs : Fields) : Type 0 where
-  pub is : FieldsAre (spot b l.from l.to) fs
+-- the records of the fields fs, and how long their kinds are in brackets
+pub record Listed (l : Measured) (fs : Fields) : Type 0 where
+  pub is : ListIs l.bytes.now fs
   pub long : l.text ≡ length (kind_text (Kind.tuple (kinds_of fs)))
-  pub small : l.text ≤ 2 * length b + 2
-  pub order : l.from ≤ l.to
-  pub inside : l.to ≤ length b
-  pub short : length b ≤ longest_record
+  pub small : l.text ≤ 2 * length l.bytes.now + 2
+  pub few : length l.bytes.now ≤ longest_record
 
--- the same for outputs, of which there may be none: then only the place counts
-pub record Returned (b : List ℕ) (l : Measured) (fs : Fields) : Type 0 where
-  pub is : FieldsAre (spot b l.from l.to) fs
-  pub order : l.from ≤ l.to
-  pub inside : l.to ≤ length b
-  pub some : (l.from ≡ l.to → ⊥) → Listed b l fs
+-- a list, if there is any field in it
+abbrev pub filled : Option Measured → Option Measured
+filled None = None
+filled (Some l) = elim (eqb (length l.bytes.now) 0) [ true ↦ None | false ↦ Some l ]
 
-abbrev pub SomeList : List ℕ → Measured → Type 0
-SomeList b l = (fs : Fields) × Listed b l fs
+-- the same of outputs, where there are any
+abbrev pub Returned : Option Measured → Fields → Type 0
+Returned None fs = fs ≡ no_field
+Returned (Some l) fs = Listed l fs × (fs ≡ no_field → ⊥)
 
-abbrev pub SomeReturns : List ℕ → Measured → Type 0
-SomeReturns b l = (fs : Fields) × Returned b l fs
+abbrev pub SomeListed : Measured → Type 0
+SomeListed l = (fs : Fields) × Listed l fs
+
+abbrev pub SomeReturns : Option Measured → Type 0
+SomeReturns o = (fs : Fields) × Returned o fs
 
 -- how long they are in full; the second follows from the first, and is there for `omega` to find
-pub record ListLong (b : List ℕ) (l : Measured) (r : ℕ) : Type 0 where
-  pub all : (fs : Fields) → Listed b l fs → r ≡ length (bracketed fs)
-  pub low : r ≤ 3 * length b + 2
+pub record ListLong (l : Measured) (r : ℕ) : Type 0 where
+  pub all : (fs : Fields) → Listed l fs → r ≡ length (bracketed fs)
+  pub low : r ≤ 3 * longest_record + 2
 
-abbrev pub ReturnsLong : List ℕ → Measured → ℕ → Type 0
-ReturnsLong b l r = (fs : Fields) → Returned b l fs → r ≡ length (returns_text fs)
+pub record ReturnsLong (o : Option Measured) (r : ℕ) : Type 0 where
+  pub all : (fs : Fields) → Returned o fs → r ≡ length (returns_text fs)
+  pub low : r ≤ 3 * longest_record + 11
 
--- outputs from a place of the record up to another, with room for them at o
-pub record ReturnsRoom (b : List ℕ) (from to o : ℕ) (out : List ℕ) : Type 0 where
-  pub some : SomeFields (spot b from to)
-  pub order : from ≤ to
-  pub inside : to ≤ length b
-  pub room : o + length (returns_text some.0) ≤ length out
+-- there is room for the outputs
+pub record ReturnsRoom (o : Option Measured) (out : List ℕ) : Type 0 where
+  pub fields : Fields
+  pub are : Returned o fields
+  pub room : length (returns_text fields) ≤ length out
 
-abbrev pub ReturnsWrote : List ℕ → ℕ → ℕ → ℕ → List ℕ → List ℕ → ℕ → Type 0
-ReturnsWrote b from to o out out₁ r = (fs : Fields) → FieldsAre (spot b from to) fs → o + length (returns_text fs) ≤ length out → PutIn (returns_text fs) o out out₁ r
+-- what is left; the second follows from the first, and is there for `omega` to find
+pub record ReturnsWrote (o : Option Measured) (out out₁ : List ℕ) (r : ℕ) : Type 0 where
+  pub put : (fs : Fields) → Returned o fs → length (returns_text fs) ≤ length out → Put (returns_text fs) out out₁ r
+  pub inside : r ≤ length out
 
--- a line: a word in front, the name, the list, a word behind it, and the outputs
-abbrev pub joined : List ℕ → List ℕ → Fields → List ℕ → Fields → List ℕ
-joined front name ins back outs = front ++ (name ++ (bracketed ins ++ (back ++ returns_text outs)))
-
--- what a declaration's record says that has such a line; no line is twice as long as its record
-pub record Line (b : List ℕ) (s : Spot) (i u : Measured) (front back : List ℕ) : Type 0 where
-  pub name : List ℕ
+-- what a line says
+pub record IsLine (l : Line) : Type 0 where
   pub ins : Fields
   pub outs : Fields
-  pub named : NameSaid b s name
-  pub inputs : Listed b i ins
-  pub outputs : Returned b u outs
-  pub short : length (joined front name ins back outs) ≤ 2 * length b
+  pub inputs : Listed l.inputs ins
+  pub outputs : Returned l.outputs outs
+  pub short : length l.front.now + length l.name.now ≤ 2 * longest_record
 
-unfoldable pub line_of : {b : List ℕ} {s : Spot} {i u : Measured} {front back : List ℕ} → Line b s i u front back → List ℕ
-line_of {b} {s} {i} {u} {front} {back} p = joined front p.name p.ins back p.outs
+-- and its text
+abbrev pub line_text : (l : Line) → IsLine l → List ℕ
+line_text l p = l.front.now ++ (l.name.now ++ (bracketed p.ins ++ (l.back.now ++ returns_text p.outs)))
 
-abbrev pub LineFits : List ℕ → Spot → Measured → Measured → List ℕ → List ℕ → ℕ → Bool → Type 0
-LineFits b s i u front back room r = (p : Line b s i u front back) → r ≡ leb (length (line_of p)) room
+abbrev pub LineLong : Line → ℕ → Type 0
+LineLong l r = (p : IsLine l) → r ≡ length (line_text l p)
 
-abbrev pub LineEnds : List ℕ → Spot → Measured → Measured → List ℕ → List ℕ → List ℕ → List ℕ → Answer → Type 0
-LineEnds b s i u front back text text₁ r = (p : Line b s i u front back) → Ends (writes (line_of p)) text text₁ r
+-- there is room for it
+pub record LineRoom (l : Line) (out : List ℕ) : Type 0 where
+  pub is : IsLine l
+  pub room : length (line_text l is) ≤ length out
+
+abbrev pub LineWrote : Line → List ℕ → List ℕ → ℕ → Type 0
+LineWrote l out out₁ r = (p : IsLine l) → length (line_text l p) ≤ length out → Put (line_text l p) out out₁ r
+
+-- it is the line of what a record says
+pub record LineIs (o : Option Declaration) (l : Line) : Type 0 where
+  pub tree : Declaration
+  pub same : o ≡ Some tree
+  pub line : IsLine l
+  pub text : full_text tree ≡ line_text l line
+
+abbrev pub LineOf : Option Declaration → Option Line → Type 0
+LineOf o None = o ≡ None
+LineOf o (Some l) = LineIs o l
+
+-- whether it fits a room
+abbrev pub LineFits : Option Declaration → Line → ℕ → Bool → Type 0
+LineFits o l room r = (w : LineIs o l) → r ≡ leb (length (line_text l w.line)) room

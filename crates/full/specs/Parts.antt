@@ -1,12 +1,26 @@
 -- What the functions over parts of a record that are known to be encodings ask and leave.
 -- Assumes nothing.
-use Rattle.std.specs.Prelude.{◌≡◌, List, ◌++◌, ℕ, ◌+◌, ◌≤◌, length}
-use Rattle.layout.specs.Buffer.{put}
+use Rattle.std.specs.Prelude.{◌≡◌, List, ◌++◌, ℕ, ◌+◌, ◌<◌, ◌≤◌, length, get_or, Option, None, Some}
 use Rattle.model.specs.Tree.{Base, elementary, tuple, Field, field, Fields, no_field, more_fields}
 use Rattle.model.specs.Reading.{FieldKind}
 use Rattle.model.specs.Written.{suffixes_text, mark_text, name_text, written_base, written_field}
 use Rattle.model.specs.Full.{bracketed}
-use Rattle.record.specs.Encoded.{FieldsAre, FieldIs, KindIs, SomeFields, SomeField, SomeKind}
+use Rattle.record.specs.declared.Piece.{Piece}
+use Rattle.record.specs.Parts.{PieceIs}
+use Rattle.record.specs.Encoded.{FieldsAre, FieldIs, KindIs}
+use Rattle.abi.specs.Writes.{Put}
+
+-- b is the records of the fields fs, one behind the other, as far as it is bytes: every lent slice is, and so this is asked where there is none yet
+abbrev pub ListIs : List ℕ → Fields → Type 0
+ListIs b fs = ((i : ℕ) → get_or b i 0 < 256) → FieldsAre b fs
+
+abbrev pub SomeList : List ℕ → Type 0
+SomeList b = (fs : Fields) × ListIs b fs
+
+-- p is the tuple that t begins with, if it begins with one
+abbrev pub TupleIs : List ℕ → Option Piece → Type 0
+TupleIs t (Some p) = PieceIs t (Some p) × (p.kind ≡ 0x9)
+TupleIs t None = (p : Piece) × PieceIs t (Some p) × (p.kind ≡ 0x9 → ⊥)
 
 -- What mark words and names take, in all tuples.
 unfoldable mutual
@@ -22,8 +36,8 @@ unfoldable mutual
   extra_fields (more_fields f fs) = extra_field f + extra_fields fs
 
 -- the second follows from the first, and is there for `omega` to find
-pub record Extra (b : List ℕ) (r : ℕ) : Type 0 where
-  pub all : (fs : Fields) → FieldsAre b fs → r ≡ extra_fields fs
+pub record ExtraFields (b : List ℕ) (r : ℕ) : Type 0 where
+  pub all : (fs : Fields) → ListIs b fs → r ≡ extra_fields fs
   pub low : r ≤ length b
 
 pub record ExtraField (body : List ℕ) (r : ℕ) : Type 0 where
@@ -39,28 +53,31 @@ pub record ExtraKind (t : List ℕ) (r : ℕ) : Type 0 where
 abbrev pub kind_written : FieldKind → List ℕ
 kind_written k = written_base k.base ++ suffixes_text k.suffixes
 
--- u is put in at o, and ends at r
-abbrev pub PutIn : List ℕ → ℕ → List ℕ → List ℕ → ℕ → Type 0
-PutIn u o b b₁ r = (b₁ ≡ put o u b) × (r ≡ o + length u)
+-- something of which b is the encoding, with room for its text
+pub record FieldsRoom (b out : List ℕ) : Type 0 where
+  pub fields : Fields
+  pub are : ListIs b fields
+  pub room : length (bracketed fields) ≤ length out
 
--- something of which b is the encoding, with room for its text at o
-pub record FieldsRoom (b : List ℕ) (o : ℕ) (out : List ℕ) : Type 0 where
-  pub some : SomeFields b
-  pub room : o + length (bracketed some.0) ≤ length out
+pub record FieldRoom (body out : List ℕ) : Type 0 where
+  pub field : Field
+  pub is : FieldIs body field
+  pub room : length (written_field field) ≤ length out
 
-pub record FieldRoom (body : List ℕ) (o : ℕ) (out : List ℕ) : Type 0 where
-  pub some : SomeField body
-  pub room : o + length (written_field some.0) ≤ length out
+pub record KindRoom (t out : List ℕ) : Type 0 where
+  pub kind : FieldKind
+  pub is : KindIs t kind
+  pub room : length (kind_written kind) ≤ length out
 
-pub record KindRoom (t : List ℕ) (o : ℕ) (out : List ℕ) : Type 0 where
-  pub some : SomeKind t
-  pub room : o + length (kind_written some.0) ≤ length out
+-- what each leaves for whatever the bytes are the encoding of; the second follows from the first, and is there for `omega` to find
+pub record FieldsWrote (b out out₁ : List ℕ) (r : ℕ) : Type 0 where
+  pub put : (fs : Fields) → ListIs b fs → length (bracketed fs) ≤ length out → Put (bracketed fs) out out₁ r
+  pub inside : r ≤ length out
 
-abbrev pub FieldsWrote : List ℕ → ℕ → List ℕ → List ℕ → ℕ → Type 0
-FieldsWrote b o out out₁ r = (fs : Fields) → FieldsAre b fs → o + length (bracketed fs) ≤ length out → PutIn (bracketed fs) o out out₁ r
+pub record FieldWrote (body out out₁ : List ℕ) (r : ℕ) : Type 0 where
+  pub put : (f : Field) → FieldIs body f → length (written_field f) ≤ length out → Put (written_field f) out out₁ r
+  pub inside : r ≤ length out
 
-abbrev pub FieldWrote : List ℕ → ℕ → List ℕ → List ℕ → ℕ → Type 0
-FieldWrote body o out out₁ r = (f : Field) → FieldIs body f → o + length (written_field f) ≤ length out → PutIn (written_field f) o out out₁ r
-
-abbrev pub KindWrote : List ℕ → ℕ → List ℕ → List ℕ → ℕ → Type 0
-KindWrote t o out out₁ r = (k : FieldKind) → KindIs t k → o + length (kind_written k) ≤ length out → PutIn (kind_written k) o out out₁ r
+pub record KindWrote (t out out₁ : List ℕ) (r : ℕ) : Type 0 where
+  pub put : (k : FieldKind) → KindIs t k → length (kind_written k) ≤ length out → Put (kind_written k) out out₁ r
+  pub inside : r ≤ length out

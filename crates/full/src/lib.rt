@@ -1,32 +1,21 @@
 // Whole declarations written out: names, mark words and the walk through tuples. Kinds without names are written by abi's writers.
 #![tactic(auto)]
 
-ghost use Rattle.std.specs.Prelude.{◌≡◌, ◌+◌, ◌≤◌, length};
+ghost use Rattle.std.specs.Prelude.{◌≡◌, ◌+◌, ◌≤◌, length, take, drop};
+ghost use Rattle.model.specs.Layout.{le_value};
 ghost use Rattle.model.specs.Record.{decode};
 ghost use Rattle.model.specs.Written.{mark_text, name_text};
-ghost use Rattle.model.specs.Full.{full_output};
+ghost use Rattle.model.specs.Full.{mutability_text, anonymous_text, full_output};
 ghost use Rattle.model.specs.Answer.{said, outcome, after};
-ghost use Rattle.layout.specs.Answers.{Ends};
-ghost use Rattle.record.specs.Says.{FunctionSaid, ConstructorSaid, EventSaid, ErrorSaid};
-ghost use Rattle.record.specs.Encoded.{SomeFields, SomeField, SomeKind};
-ghost use Rattle.full.specs.Parts.{Extra, ExtraField, ExtraKind, PutIn, FieldsRoom, FieldRoom, KindRoom, FieldsWrote, FieldWrote, KindWrote};
-ghost use Rattle.full.specs.Lines.{SomeList, SomeReturns, ListLong, ReturnsLong, ReturnsRoom, ReturnsWrote, Line, LineFits, LineEnds};
+ghost use Rattle.record.specs.Parts.{Headed};
+ghost use Rattle.record.specs.Encoded.{SomeField, SomeKind};
+ghost use Rattle.abi.specs.Writes.{Put};
+ghost use Rattle.full.specs.Parts.{TupleIs, SomeList, ExtraFields, ExtraField, ExtraKind, FieldsRoom, FieldRoom, KindRoom, FieldsWrote, FieldWrote, KindWrote};
+ghost use Rattle.full.specs.Lines.{filled, SomeListed, ListLong, SomeReturns, ReturnsLong, ReturnsRoom, ReturnsWrote, IsLine, LineLong, LineRoom, LineWrote, LineIs, LineOf, LineFits};
 
-use model::{Answer, CALLDATA, INDEXED, Keyword, MEMORY, Refusal, Sort};
-use record::{Checked, Measured, Spot};
-
-// The kind of a tuple's record.
-const TUPLE: usize = 0x9;
-
-// A record's head, and where its kind stands in it.
-const HEAD: usize = 6;
-
-const KIND: usize = 4;
-
-// In the body of a field's record: where its name's record stands, and the name itself.
-const NAME: usize = 2;
-
-const LETTERS: usize = 8;
+use layout::{HEAD, TUPLE};
+use model::{Answer, Keyword, Mark, Refusal};
+use record::{Checked, Measured, Piece};
 
 // Mutabilities that have a word, and an anonymous event.
 const PURE: usize = 0;
@@ -37,344 +26,307 @@ const PAYABLE: usize = 3;
 
 const ANONYMOUS: usize = 1;
 
+// What stands before outputs.
+const RETURNS: &[u8] = b" returns ";
+
 // No line is so many times as long as its record.
 const TIMES: usize = 2;
 
-// In a constructor's record: where its fields stand; and how many tuples may nest in one.
-const FIELDS: usize = 14;
+// Words.
 
-const DEEPEST: usize = 32;
+// A space and the mark word, if any, by the number in front of a field's body.
+fn mark_word(body: &[u8]) -> &'static [u8]
+    requires { 2 ≤ length body.now }
+    ensures same { result.now ≡ mark_text (le_value (take 2 body.now)) }
+    ensures short { length result.now ≤ 9 }
+{
+    match Mark::try_from(layout::get2(body, 0)) {
+        Ok(Mark::Indexed) => b" indexed",
+        Ok(Mark::Calldata) => b" calldata",
+        Ok(Mark::Memory) => b" memory",
+        _ => b"",
+    }
+}
+
+// "a space and the mutability word unless none is stated", by the number in front of a declaration's body.
+fn mutability_word(record: &[u8]) -> &'static [u8]
+    requires { 8 ≤ length «record».now }
+    ensures { result.now ≡ mutability_text (le_value (take 2 (drop 6 «record».now))) }
+{
+    match layout::get2(record, HEAD) {
+        PURE => b" pure",
+        VIEW => b" view",
+        PAYABLE => b" payable",
+        _ => b"",
+    }
+}
+
+// "` anonymous` where set", by the same number.
+fn anonymous_word(record: &[u8]) -> &'static [u8]
+    requires { 8 ≤ length «record».now }
+    ensures { result.now ≡ anonymous_text (le_value (take 2 (drop 6 «record».now))) }
+{
+    match layout::get2(record, HEAD) {
+        ANONYMOUS => b" anonymous",
+        _ => b"",
+    }
+}
+
+// The tuple that a kind begins with, if its base is one: the fields in it, and the suffixes behind it.
+fn tuple(t: &[u8]) -> Option<Piece<'_>>
+    requires { Headed t.now }
+    ensures { TupleIs t.now result }
+{
+    let base = Piece::first(t);
+    if base.kind == TUPLE { Some(base) } else { None }
+}
 
 // How long texts are.
 
-// A space and a mark word, if any.
-fn mark_length(mark: usize) -> usize
-    ensures { (result ≡ length (mark_text mark)) × (result ≤ 9) }
-{
-    if mark == INDEXED {
-        return b" indexed".len();
-    }
-    if mark == CALLDATA {
-        return b" calldata".len();
-    }
-    if mark == MEMORY {
-        return b" memory".len();
-    }
-    0
-}
-
 // A space and a name, if any.
 fn name_length(name: &[u8]) -> usize
-    ensures { (result ≡ length (name_text name.now)) × (result ≤ length name.now + 1) }
+    ensures same { result ≡ length (name_text name.now) }
+    ensures short { result ≤ length name.now + 1 }
 {
-    if name.len() == 0 {
-        return 0;
-    }
-    name.len() + 1
+    if name.is_empty() { 0 } else { name.len() + 1 }
 }
 
 // What mark words and names take in the fields up to the end, in all their tuples.
-#[cycle(extra_extra_field_extra_kind)]
-fn extra(b: &[u8]) -> usize
-    requires { SomeFields b.now }
-    ensures { Extra b.now result }
+#[cycle(extra_field_extra_fields_extra_kind)]
+#[tactic(auto, using(crate::proofs::Measuring::measuring))]
+fn extra_fields(b: &[u8]) -> usize
+    requires { SomeList b.now }
+    ensures { ExtraFields b.now result }
 {
-    let mut at = 0;
+    let mut left = b;
     let mut n = 0;
-    while at < b.len() {
-        let t = &b[at..];
-        let l = layout::get4(t, 0);
-        n += extra_field(&t[HEAD..l]);
-        at += l;
+    // A walk over pieces: a loop (`record::Piece`).
+    while !left.is_empty() {
+        let field = Piece::first(left);
+        n += extra_field(field.body);
+        left = field.rest;
     }
     n
 }
 
 // The same of one field, by its record's body.
-#[cycle(extra_extra_field_extra_kind)]
+#[cycle(extra_field_extra_fields_extra_kind)]
+#[tactic(auto, using(crate::proofs::Measuring::measuring))]
 fn extra_field(body: &[u8]) -> usize
     requires { SomeField body.now }
     ensures { ExtraField body.now result }
 {
-    let q = NAME + layout::get4(body, NAME);
-    let mark = mark_length(layout::get2(body, 0));
-    let name = name_length(&body[LETTERS..q]);
-    mark + name + extra_kind(&body[q..])
+    let name = record::named(body);
+    mark_word(body).len() + name_length(name.body) + extra_kind(name.rest)
 }
 
 // The same of a base and its suffixes.
-#[cycle(extra_extra_field_extra_kind)]
+#[cycle(extra_field_extra_fields_extra_kind)]
+#[tactic(auto, using(crate::proofs::Measuring::measuring))]
 fn extra_kind(t: &[u8]) -> usize
     requires { SomeKind t.now }
     ensures { ExtraKind t.now result }
 {
-    if layout::get2(t, KIND) == TUPLE {
-        let l = layout::get4(t, 0);
-        return extra(&t[HEAD..l]);
+    match tuple(t) {
+        Some(base) => extra_fields(base.body),
+        None => 0,
     }
-    0
 }
 
-// Each writer writes at o and answers the place behind.
-
-// A space and a mark word, if any.
-fn write_mark(mark: usize, out: &mut [u8], o: usize) -> usize
-    requires { o + length (mark_text mark) ≤ length out.old }
-    ensures { PutIn (mark_text mark) o out.old out.new result }
-{
-    if mark == INDEXED {
-        return abi::write_word(out, o, b" indexed");
-    }
-    if mark == CALLDATA {
-        return abi::write_word(out, o, b" calldata");
-    }
-    if mark == MEMORY {
-        return abi::write_word(out, o, b" memory");
-    }
-    o
-}
+// Each writer writes at the front of what it is lent, and answers how much.
 
 // A space and a name, if any.
-fn write_name(name: &[u8], out: &mut [u8], o: usize) -> usize
-    requires { o + length (name_text name.now) ≤ length out.old }
-    ensures { PutIn (name_text name.now) o out.old out.new result }
+fn write_name(name: &[u8], out: &mut [u8]) -> usize
+    requires { length (name_text name.now) ≤ length out.old }
+    ensures { Put (name_text name.now) out.old out.new result }
 {
-    if name.len() == 0 {
-        return o;
+    if name.is_empty() {
+        return 0;
     }
-    out[o] = b' ';
-    abi::write_word(out, o + 1, name)
+    out[0] = b' ';
+    1 + abi::write_word(&mut out[1..], name)
 }
 
 // A base and its suffixes: a tuple's components are written in full, its suffixes behind its bracket.
-#[cycle(write_full_field_write_full_fields_write_full_kind)]
-fn write_full_kind(t: &[u8], out: &mut [u8], o: usize) -> usize
-    requires { KindRoom t.now o out.old }
-    ensures { KindWrote t.now o out.old out.new result }
+#[cycle(write_field_write_fields_write_kind)]
+fn write_kind(t: &[u8], out: &mut [u8]) -> usize
+    requires { KindRoom t.now out.old }
+    ensures { KindWrote t.now out.old out.new result }
 {
-    let k = layout::get2(t, KIND);
-    if k == TUPLE {
-        let n = layout::get4(t, 0);
-        let p = write_full_fields(&t[HEAD..n], out, o);
-        return abi::write_suffixes(&t[n..], out, p);
-    }
-    abi::write_kind(t, out, o)
+    let Some(base) = tuple(t) else {
+        return abi::write_kind(t, out);
+    };
+    let n = write_fields(base.body, out);
+    n + abi::write_suffixes(base.rest, &mut out[n..])
 }
 
 // "A field is its kind, then a space and its mark word if any, then a space and its name if any.", by its record's body.
-#[cycle(write_full_field_write_full_fields_write_full_kind)]
-fn write_full_field(body: &[u8], out: &mut [u8], o: usize) -> usize
-    requires { FieldRoom body.now o out.old }
-    ensures { FieldWrote body.now o out.old out.new result }
+#[cycle(write_field_write_fields_write_kind)]
+fn write_field(body: &[u8], out: &mut [u8]) -> usize
+    requires { FieldRoom body.now out.old }
+    ensures { FieldWrote body.now out.old out.new result }
 {
-    let q = NAME + layout::get4(body, NAME);
-    let p = write_full_kind(&body[q..], out, o);
-    let s = write_mark(layout::get2(body, 0), out, p);
-    write_name(&body[LETTERS..q], out, s)
+    let name = record::named(body);
+    let kind = write_kind(name.rest, out);
+    let mark = kind + abi::write_word(&mut out[kind..], mark_word(body));
+    mark + write_name(name.body, &mut out[mark..])
 }
 
-// "fields are parted by `,`", in brackets: each field with a comma before it, and the first with the bracket.
-#[cycle(write_full_field_write_full_fields_write_full_kind)]
-fn write_full_fields(b: &[u8], out: &mut [u8], o: usize) -> usize
-    requires { FieldsRoom b.now o out.old }
-    ensures { FieldsWrote b.now o out.old out.new result }
+// "fields are parted by `,`", in brackets: each with a comma before it, and a bracket in the place of the first.
+#[cycle(write_field_write_fields_write_kind)]
+fn write_fields(b: &[u8], out: &mut [u8]) -> usize
+    requires { FieldsRoom b.now out.old }
+    ensures { FieldsWrote b.now out.old out.new result }
 {
-    if b.len() == 0 {
-        return abi::write_word(out, o, b"()");
+    let mut left = b;
+    let mut n = 0;
+    // A walk over pieces: a loop (`record::Piece`).
+    while !left.is_empty() {
+        let field = Piece::first(left);
+        out[n] = b',';
+        n += 1 + write_field(field.body, &mut out[n + 1..]);
+        left = field.rest;
     }
-    let mut before = b'(';
-    let mut at = 0;
-    let mut p = o;
-    while at < b.len() {
-        let t = &b[at..];
-        let l = layout::get4(t, 0);
-        out[p] = before;
-        p = write_full_field(&t[HEAD..l], out, p + 1);
-        before = b',';
-        at += l;
-    }
-    out[p] = b')';
-    p + 1
+    let last = n.max(1);
+    out[0] = b'(';
+    out[last] = b')';
+    last + 1
 }
 
 // Lines.
 
-// A list in full.
-fn list_length(record: &[u8], list: Measured) -> usize
-    requires { SomeList «record».now list }
-    ensures { ListLong «record».now list result }
+// A list, if there is any field in it.
+fn filled(list: Option<Measured<'_>>) -> Option<Measured<'_>>
+    ensures { result ≡ filled list.entry }
 {
-    let from = list.from;
-    let to = list.to;
-    list.text + extra(&record[from..to])
+    list.filter(|list| !list.bytes.is_empty())
+}
+
+// A list in full.
+fn list_length(list: Measured<'_>) -> usize
+    requires { SomeListed list }
+    ensures { ListLong list.entry result }
+{
+    list.text + extra_fields(list.bytes)
 }
 
 // " returns " and the outputs, if there are any.
-fn returns_length(record: &[u8], outputs: Measured) -> usize
-    requires { SomeReturns «record».now outputs }
-    ensures { ReturnsLong «record».now outputs result }
+fn returns_length(outputs: Option<Measured<'_>>) -> usize
+    requires { SomeReturns outputs }
+    ensures { ReturnsLong outputs.entry result }
 {
-    if outputs.from == outputs.to {
-        return 0;
+    match outputs {
+        Some(outputs) => RETURNS.len() + list_length(outputs),
+        None => 0,
     }
-    b" returns ".len() + list_length(record, outputs)
 }
 
-// The same written, where the outputs stand from a place of the record up to another.
-fn write_returns(record: &[u8], from: usize, to: usize, text: &mut [u8], o: usize) -> usize
-    requires { ReturnsRoom «record».now from to o text.old }
-    ensures { ReturnsWrote «record».now from to o text.old text.new result }
+// The same written.
+fn write_returns(outputs: Option<Measured<'_>>, out: &mut [u8]) -> usize
+    requires { ReturnsRoom outputs out.old }
+    ensures { ReturnsWrote outputs.entry out.old out.new result }
 {
-    if from == to {
-        return o;
+    match outputs {
+        Some(outputs) => {
+            let n = abi::write_word(out, RETURNS);
+            n + write_fields(outputs.bytes, &mut out[n..])
+        }
+        None => 0,
     }
-    let p = abi::write_word(text, o, b" returns ");
-    write_full_fields(&record[from..to], text, p)
 }
 
-// Whether a line fits a room. Most rooms are so long that the line need not be measured.
-fn fits(
-    record: &[u8],
-    front: &[u8],
-    name: Spot,
-    inputs: Measured,
-    back: &[u8],
-    outputs: Measured,
-    room: usize,
-) -> bool
-    requires { Line «record».now name inputs outputs front.now back.now }
-    ensures { LineFits «record».now name inputs outputs front.now back.now room result }
-{
-    if TIMES * record.len() <= room {
-        return true;
-    }
-    let from = name.from;
-    let to = name.to;
-    let list = list_length(record, inputs);
-    let behind = returns_length(record, outputs);
-    front.len() + (to - from) + list + back.len() + behind <= room
+// A line: a word in front, a name, a list, a word behind it, and the outputs, if there are any.
+#[derive(Clone, Copy, Debug, PartialEq, Eq)]
+struct Line<'a> {
+    front: &'a [u8],
+    name: &'a [u8],
+    inputs: Measured<'a>,
+    back: &'a [u8],
+    outputs: Option<Measured<'a>>,
 }
 
-// A line, between a word in front and a word behind the list.
-fn whole(
-    record: &[u8],
-    front: &[u8],
-    name: Spot,
-    inputs: Measured,
-    back: &[u8],
-    outputs: Measured,
-    text: &mut [u8],
-) -> Answer
-    requires { Line «record».now name inputs outputs front.now back.now }
-    ensures { LineEnds «record».now name inputs outputs front.now back.now text.old text.new result }
-{
-    if fits(record, front, name, inputs, back, outputs, text.len()) {
-        let from = name.from;
-        let to = name.to;
-        let start = inputs.from;
-        let end = inputs.to;
-        let first = outputs.from;
-        let last = outputs.to;
-        let p = abi::write_word(text, 0, front);
-        let q = abi::write_word(text, p, &record[from..to]);
-        let s = write_full_fields(&record[start..end], text, q);
-        let e = abi::write_word(text, s, back);
-        let length = write_returns(record, first, last, text, e);
-        return Ok(length);
+impl<'a> Line<'a> {
+    // The line of a declaration's record.
+    fn of(record: &'a [u8]) -> Option<Line<'a>>
+        ensures { LineOf (decode «record».now) result }
+    {
+        match record::check(record)? {
+            Checked::Declared {
+                keyword: Keyword::Function,
+                name,
+                inputs,
+                outputs,
+            } => Some(Line {
+                front: b"function ",
+                name,
+                inputs,
+                back: mutability_word(record),
+                outputs: filled(outputs),
+            }),
+            Checked::Declared {
+                keyword: Keyword::Event,
+                name,
+                inputs,
+                ..
+            } => Some(Line {
+                front: b"event ",
+                name,
+                inputs,
+                back: anonymous_word(record),
+                outputs: None,
+            }),
+            Checked::Declared {
+                keyword: Keyword::Error,
+                name,
+                inputs,
+                ..
+            } => Some(Line {
+                front: b"error ",
+                name,
+                inputs,
+                back: b"",
+                outputs: None,
+            }),
+            Checked::Constructor { inputs } => Some(Line {
+                front: b"constructor",
+                name: b"",
+                inputs,
+                back: mutability_word(record),
+                outputs: None,
+            }),
+            _ => None,
+        }
     }
-    abi::refused(Refusal::NoRoom)
-}
 
-// The words of each keyword.
+    fn length(&self) -> usize
+        requires { IsLine self.now }
+        ensures { LineLong self.now result }
+    {
+        self.front.len()
+            + self.name.len()
+            + list_length(self.inputs)
+            + self.back.len()
+            + returns_length(self.outputs)
+    }
 
-// "a space and the mutability word unless none is stated"
-fn function(
-    record: &[u8],
-    name: Spot,
-    inputs: Measured,
-    outputs: Measured,
-    text: &mut [u8],
-) -> Answer
-    requires { FunctionSaid «record».now (decode «record».now) name inputs outputs }
-    ensures { Ends (full_output «record».now) text.old text.new result }
-{
-    let stated = layout::get2(&record[HEAD..], 0);
-    if stated == PURE {
-        return whole(record, b"function ", name, inputs, b" pure", outputs, text);
+    // Whether it fits a room. Most rooms are so long that it need not be measured.
+    fn fits(&self, record: &[u8], room: usize) -> bool
+        requires { LineIs (decode «record».now) self.now }
+        ensures { LineFits (decode «record».now) self.now room result }
+    {
+        TIMES * record.len() <= room || self.length() <= room
     }
-    if stated == VIEW {
-        return whole(record, b"function ", name, inputs, b" view", outputs, text);
-    }
-    if stated == PAYABLE {
-        return whole(
-            record,
-            b"function ",
-            name,
-            inputs,
-            b" payable",
-            outputs,
-            text,
-        );
-    }
-    whole(record, b"function ", name, inputs, b"", outputs, text)
-}
 
-// The same; a constructor has neither a name nor outputs, and its list ends its record.
-fn constructor(record: &[u8], text: &mut [u8]) -> Answer
-    requires { ConstructorSaid (decode «record».now) }
-    ensures { Ends (full_output «record».now) text.old text.new result }
-{
-    let stated = layout::get2(&record[HEAD..], 0);
-    let name = Spot { from: 0, to: 0 };
-    let inputs = Measured {
-        from: FIELDS,
-        to: record.len(),
-        text: record::fields(&record[FIELDS..], Sort::Parameter, DEEPEST),
-    };
-    let outputs = Measured {
-        from: 0,
-        to: 0,
-        text: 0,
-    };
-    if stated == PAYABLE {
-        return whole(
-            record,
-            b"constructor",
-            name,
-            inputs,
-            b" payable",
-            outputs,
-            text,
-        );
+    fn write(&self, out: &mut [u8]) -> usize
+        requires { LineRoom self.now out.old }
+        ensures { LineWrote self.now out.old out.new result }
+    {
+        let mut n = abi::write_word(out, self.front);
+        n += abi::write_word(&mut out[n..], self.name);
+        n += write_fields(self.inputs.bytes, &mut out[n..]);
+        n += abi::write_word(&mut out[n..], self.back);
+        n + write_returns(self.outputs, &mut out[n..])
     }
-    whole(record, b"constructor", name, inputs, b"", outputs, text)
-}
-
-// "` anonymous` where set"
-fn event(record: &[u8], name: Spot, inputs: Measured, outputs: Measured, text: &mut [u8]) -> Answer
-    requires { EventSaid «record».now (decode «record».now) name inputs outputs }
-    ensures { Ends (full_output «record».now) text.old text.new result }
-{
-    let set = layout::get2(&record[HEAD..], 0);
-    if set == ANONYMOUS {
-        return whole(
-            record,
-            b"event ",
-            name,
-            inputs,
-            b" anonymous",
-            outputs,
-            text,
-        );
-    }
-    whole(record, b"event ", name, inputs, b"", outputs, text)
-}
-
-fn error(record: &[u8], name: Spot, inputs: Measured, outputs: Measured, text: &mut [u8]) -> Answer
-    requires { ErrorSaid «record».now (decode «record».now) name inputs outputs }
-    ensures { Ends (full_output «record».now) text.old text.new result }
-{
-    whole(record, b"error ", name, inputs, b"", outputs, text)
 }
 
 // The call.
@@ -384,21 +336,11 @@ pub fn full_text(record: &[u8], text: &mut [u8]) -> Answer
     ensures says { said result ≡ outcome (length text.old) (full_output «record».now) }
     ensures left { text.new ≡ after text.old (full_output «record».now) }
 {
-    let c = record::check(record);
-    match c {
-        Checked::Declared {
-            keyword,
-            name,
-            inputs,
-            outputs,
-        } => match keyword {
-            Keyword::Function => function(record, name, inputs, outputs, text),
-            Keyword::Constructor => abi::refused(Refusal::NotWellFormed),
-            Keyword::Event => event(record, name, inputs, outputs, text),
-            Keyword::Error => error(record, name, inputs, outputs, text),
-        },
-        Checked::Constructor => constructor(record, text),
-        Checked::Field { name, kind } => abi::refused(Refusal::NotWellFormed),
-        Checked::IllFormed => abi::refused(Refusal::NotWellFormed),
+    let Some(line) = Line::of(record) else {
+        return Err(Refusal::NotWellFormed.into());
+    };
+    if !line.fits(record, text.len()) {
+        return Err(Refusal::NoRoom.into());
     }
+    Ok(line.write(text))
 }

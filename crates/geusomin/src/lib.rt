@@ -185,32 +185,16 @@ pub extern "C" fn geusomin_check_data(record: &[u8], data: &[u8], value: &mut us
     tell(calldata::check(record, data), value)
 }
 
-// A part, copied whole or not at all.
-fn copied(part: &[u8], text: &mut [u8]) -> Answer
-    ensures says { said result ≡ outcome (length text.old) (writes part.now) }
-    ensures left { text.new ≡ after text.old (writes part.now) }
-{
-    let length = part.len();
-    if text.len() < length {
-        return Err(Refusal::NoRoom.into());
-    }
-    layout::copy(text, 0, part);
-    Ok(length)
-}
-
 #[unsafe(no_mangle)]
 pub extern "C" fn geusomin_copy_name(record: &[u8], text: &mut [u8], value: &mut usize) -> u32
     ensures tells { result ≡ code (outcome (length text.old) (name_output «record».now)) }
     ensures shows { value.new ≡ worth (outcome (length text.old) (name_output «record».now)) }
     ensures left { text.new ≡ after text.old (name_output «record».now) }
 {
-    let mut refusal = 0;
-    let name = abi::name(record, &mut refusal);
-    if refusal == 0 {
-        return tell(copied(name, text), value);
+    match abi::name(record) {
+        Ok(name) => tell(layout::deliver(name, text), value),
+        Err(refusal) => tell(Err(refusal.into()), value),
     }
-    *value = 0;
-    refusal
 }
 
 #[unsafe(no_mangle)]

@@ -1,3 +1,4 @@
+pub mod Parts
+pub mod Places
 pub mod Walking
-pub mod Repeating
 pub mod Searching

@@ -1,52 +1,61 @@
--- The search: the text of a declaration, a function with that text at a place, and all that are noted.
+-- The search: the text of a declaration, a function at a place, and all that are noted.
 -- Assumes nothing.
-use Rattle.std.specs.Prelude.{Ok}
 use mathlib.Core.Path.{◌≡◌, refl, sym, ◌∙◌, ap, ap₂}
 use mathlib.Core.Bool.{Bool, true, false, ◌&&◌}
-use mathlib.Core.List.{List}
-use Rattle.std.specs.Prelude.{Option, None, Some}
-use Prim.Native.Nat.{ℕ, suc, ◌+◌, ◌-◌, ◌≤◌, ◌<◌}
+use mathlib.Core.Logic.{◌⊎◌, inl, inr}
+use mathlib.Core.List.{List, [], ◌∷◌}
+use Rattle.std.specs.Prelude.{Option, None, Some, Ok, nat_eq}
+use Rattle.std.specs.Cmp.Lexicographic.{pointwise}
+use Rattle.std.specs.declared.iter.Zip.{Zip}
+use Rattle.std.specs.declared.slice.Iter.{Iter}
+use Rattle.std.specs.Iterator.Adapters.{zip_first, zip_second}
+use Rattle.std.specs.Slice.Iter.{iter_rest}
+use Rattle.std.proofs.iter.Yields.{fronts}
+use Rattle.std.proofs.lemmas.Iterator.{zips}
+use Rattle.std.proofs.lemmas.Slice.Eq.{bytes_eq-Decides}
+use Rattle.std.proofs.lemmas.Slice.Zip.{Zip-more, either_empty_from_Zip}
+use denote.Ref.{Bor}
+use Prim.Native.Nat.{ℕ, suc, ◌+◌, ◌≤◌}
 use native.Mathlib.Omega.{arith}
 use native.Mathlib.Numerals.{add-one}
-use lib.ListN.{length, take, drop, get_or, drop_of_length-le}
+use lib.ListN.{length, take, drop}
 use lib.Seq.{take_at}
 use borrow.Author.Tests.{le-ltb}
 use Rattle.kinds.specs.Bytes.{same}
-use Rattle.kinds.proofs.Logic.{right}
+use Rattle.kinds.proofs.Logic.{same_equal}
 use Rattle.model.specs.declared.Refusal.{Refusal}
 use Rattle.model.specs.declared.Refusal.TheVariants.{NoSuchFunction, NotWellFormed}
-use Rattle.model.specs.Layout.{le_value}
 use Rattle.model.specs.Tree.{Declaration}
-use Rattle.model.specs.Record.{encode, well_formed}
 use Rattle.model.specs.Line.{canonical_text}
 use Rattle.model.specs.Answer.{accepted, refused, number, writes, said, outcome, after, Answer, refusing}
 use Rattle.model.specs.Calls.{canonical_output, or_wrong_sort}
-use Rattle.model.specs.Sheet.{same_text}
+use Rattle.model.specs.Sheet.{same_text, decode_sheet}
 use Rattle.model.specs.Find.{is_function, counted, is_sought, search_in, search_by, find_output, found_at, not_found, Search}
 use Rattle.model.proofs.Sheets.{text_same}
 use Rattle.layout.proofs.Answers.{accepted-is, after-written}
-use Rattle.repeat.specs.Pairs.{RecordOf}
-use Rattle.repeat.specs.Prints.{print, print_in, OneRecord}
-use Rattle.repeat.proofs.Whole.{code_in}
-use Rattle.repeat.proofs.Texts.{text-short, print-is}
-use Rattle.repeat.proofs.Printing.{output-is}
-use Rattle.repeat.proofs.Noting.{NotedAt, noted-length, noted-at}
-use Rattle.index.specs.declared.Indexed.{Indexed}
-use Rattle.index.specs.declared.Indexed.TheVariants as indexed
-use Rattle.index.specs.Indexes.{longest_text, RecordAt, IndexIs}
-use Rattle.index.specs.Searches.{AskedText, TextIs, OneAt, CountAt, SoughtAt, AskedSought, SoughtIs, AskedSearch, SearchIs}
-use Rattle.index.proofs.Walking.{sheet-noted, sheet-none}
-use Rattle.index.proofs.Repeating.{place-kind, place_record, short_record}
+use Rattle.record.specs.declared.Piece.{Piece}
+use Rattle.record.specs.Parts.{PieceIs}
+use Rattle.repeat.specs.declared.Notes.{Notes}
+use Rattle.repeat.specs.Prints.{print, print_in, prints_of, OneRecord}
+use Rattle.repeat.specs.Noted.{AllAt, no_place, one_place}
+use Rattle.repeat.proofs.Whole.{code_in, alike, record_parts}
+use Rattle.repeat.proofs.Printing.{output-is, text-short, print-is}
+use Rattle.repeat.proofs.Noting.{prints-length}
+use Rattle.index.specs.Indexes.{longest_text, RecordAt, OneAt, ItsRecord, SheetNoted}
+use Rattle.index.specs.Searches.{AskedText, TextIs, SoughtIs, IsFunction, NoFunction}
+use Rattle.index.proofs.Places.{room-enough}
 
 -- The text of a record.
 
-module _ (t b u : List ℕ) (a : Answer) (says : said a ≡ outcome (length b) (canonical_output t)) where
-  pub line-told : (b₁ : List ℕ) → b₁ ≡ after b (canonical_output t) → (n : ℕ) → a ≡ Ok n → (r : Bool) → r ≡ same (take n b₁) u → TextIs t u r
+module _ (t b u b₁ : List ℕ) (a : Answer) (says : said a ≡ outcome (length b) (canonical_output t)) (leaves : b₁ ≡ after b (canonical_output t)) where
+  pub line-told : (n : ℕ) → a ≡ Ok n → (r : Bool) → r ≡ pointwise nat_eq (take n b₁) u → TextIs t u r
   unfolding said
-  line-told b₁ leaves n e r f p =
-      let (v, o, x, y) = accepted-is (canonical_output t) (length b) n (sym (ap said e) ∙ says) in
-      let part : take n b₁ ≡ v = ap (take n) (leaves ∙ after-written b v (canonical_output t) o y) ∙ take_at v (drop (length v) b) n (sym x) in
-      rw (text_of (canonical_text p.declaration) v (sym (output-is t p) ∙ o)) (f ∙ ap (λ w. same w u) part)
+  line-told n e r f = record {
+    same = λ p.
+        let (v, o, x, y) = accepted-is (canonical_output t) (length b) n (sym (ap said e) ∙ says) in
+        let part : take n b₁ ≡ v = ap (take n) (leaves ∙ after-written b v (canonical_output t) o y) ∙ take_at v (drop (length v) b) n (sym x) in
+        rw (text_of (canonical_text p.declaration) v (sym (output-is t p) ∙ o)) (f ∙ ap (λ w. pointwise nat_eq w u) part ∙ alike _ _ (bytes_eq-Decides v u) (same_equal v u));
+  }
     where
       text_of : (o : Option (List ℕ)) (v : List ℕ) → or_wrong_sort o ≡ writes v → o ≡ Some v
       text_of None v e = absurd (let z : ◌≡◌ {A = ℕ} 0 1 = cc in omega arith)
@@ -54,13 +63,26 @@ module _ (t b u : List ℕ) (a : Answer) (says : said a ≡ outcome (length b) (
 
   pub line-not : AskedText t b → (w : Refusal) (x : ℕ) → a ≡ refusing w x → TextIs t u false
   unfolding said outcome
-  line-not q w x e p = go (canonical_text p.declaration) refl (sym (ap said e) ∙ says ∙ ap (outcome (length b)) (output-is t p))
+  line-not q w x e = record { same = λ p. go p (canonical_text p.declaration) refl (sym (ap said e) ∙ says ∙ ap (outcome (length b)) (output-is t p)) }
     where
-      go : (o : Option (List ℕ)) → canonical_text p.declaration ≡ o → refused (number w) x ≡ outcome (length b) (or_wrong_sort o) → false ≡ same_text o (Some u)
-      go None f g = refl
-      go (Some v) f g =
-          let fits : outcome (length b) (writes v) ≡ accepted (length v) = rw (outcome, le-ltb (length b) (length v) (omega (arith, text-short t p.declaration p.one v f, q.room))) refl in
+      go : (p : OneRecord t) (o : Option (List ℕ)) → canonical_text p.declaration ≡ o → refused (number w) x ≡ outcome (length b) (or_wrong_sort o) → false ≡ same_text o (Some u)
+      go p None f g = refl
+      go p (Some v) f g =
+          let fits : outcome (length b) (writes v) ≡ accepted (length v) = rw (outcome, le-ltb (length b) (length v) (omega (arith, text-short t p v f, q.room))) refl in
           absurd (let h : refused (number w) x ≡ accepted (length v) = g ∙ fits in let z : ◌≡◌ {A = ℕ} 0 1 = cc in omega arith)
+
+-- with fingerprints
+pub sought-text : (t : List ℕ) (x h : ℕ) (u : List ℕ) (r : Bool) → TextIs t u r → SoughtIs t x h u r
+sought-text t x h u r f = record { same = λ p _ _. f.same p }
+
+pub sought_unlike : (t : List ℕ) (x h : ℕ) (u : List ℕ) → (x ≡ h → ⊥) → SoughtIs t x h u false
+sought_unlike t x h u n = record { same = λ p e f. go p e f (same_text (canonical_text p.declaration) (Some u)) refl }
+  where
+    go : (p : OneRecord t) → x ≡ print_in longest_text p.declaration → h ≡ print 0 u → (c : Bool) → same_text (canonical_text p.declaration) (Some u) ≡ c → false ≡ same_text (canonical_text p.declaration) (Some u)
+    go p e f true q = absurd (n (e ∙ print-is t p longest_text (room-enough t p) u ((text_same (canonical_text p.declaration) (Some u)).0 q) ∙ sym f))
+    go p e f false q = sym q
+
+pub ruleset seeking = (sought-text, sought_unlike)
 
 -- The declaration at a place.
 
@@ -78,103 +100,110 @@ code_other (Declaration.constructor m ins) e = refl
 code_other (Declaration.event a nm ins) e = refl
 code_other (Declaration.error nm ins) e = refl
 
-module _ (b : List ℕ) (at k : ℕ) (e : k ≡ le_value (take 2 (drop 4 (take (length b - at) (drop at b))))) where
-  is-function : k ≡ 0x20 → (p : OneAt b at) → is_function p.declaration ≡ true
-  is-function z p = code-function p.declaration (sym (place-kind b at p.declaration p.one) ∙ sym e ∙ z)
+module _ (b : List ℕ) (at : ℕ) (t : List ℕ) (h : ItsRecord b at t) where
+  pub its-one : OneAt b at → OneRecord t
+  its-one p = record { declaration = p.declaration; one = h.is p.declaration p.one }
 
-  is-other : (k ≡ 0x20 → ⊥) → (p : OneAt b at) → is_function p.declaration ≡ false
-  is-other z p = code_other p.declaration (λ q. z (e ∙ place-kind b at p.declaration p.one ∙ q))
+  module _ (x : Piece) (i : PieceIs t (Some x)) where
+    pub function_is : x.kind ≡ 0x20 → IsFunction b at t
+    function_is e = record { function = λ d p. code-function d (sym (record_parts t d (h.is d p) x i).kind ∙ e); is = h.is }
 
-  pub count-function : k ≡ 0x20 → CountAt b at 1
-  count-function z = record { most = omega arith; same = λ p. rw (counted, is-function z p) refl }
+    pub function-not : (x.kind ≡ 0x20 → ⊥) → NoFunction b at
+    function-not n = record { other = λ d p. code_other d (λ q. n ((record_parts t d (h.is d p) x i).kind ∙ q)) }
 
-  pub count-other : (k ≡ 0x20 → ⊥) → CountAt b at 0
-  count-other z = record { most = omega arith; same = λ p. rw (counted, is-other z p) refl }
+-- The declarations that are noted: u is left of the two arrays, with c functions before it.
 
-  pub sought_not : (u : List ℕ) → (k ≡ 0x20 → ⊥) → SoughtAt b at u false
-  unfolding is_sought
-  sought_not u z p = rw (is-other z p) refl
+pub record Searching (b t : List ℕ) (u : Zip (Iter ℕ) (Iter ℕ)) (c : ℕ) : Type 0 where
+  pub declarations : List Declaration
+  pub prints : iter_rest (zip_first u) ≡ prints_of longest_text declarations
+  pub places : AllAt (RecordAt b) (iter_rest (zip_second u)) declarations
+  pub few : c + length declarations ≤ 512
+  pub rest : find_output b t ≡ search_in t c declarations
 
-  module _ (n : ℕ) (l : n ≡ le_value (take 4 (drop 0 (take (length b - at) (drop at b))))) where
-    pub sought_one : OneAt b at → OneRecord (take n (take (length b - at) (drop at b)))
-    sought_one p = record { declaration = p.declaration; one = place_record b at p.declaration p.one n l }
+no-more : {P : ℕ → Declaration → Type 0} (ats : List ℕ) (d : Declaration) (ds : List Declaration) → AllAt P ats (d ∷ ds) → ats ≡ [] → ⊥
+no-more [] d ds f e = elim f [ ]
+no-more (at ∷ ats) d ds (one_place p all) e = omega (arith, ap length e)
 
-    pub sought_text : (u : List ℕ) (r : Bool) → k ≡ 0x20 → TextIs (take n (take (length b - at) (drop at b))) u r → SoughtAt b at u r
-    unfolding is_sought sought_one
-    sought_text u r z f p = f (sought_one p) ∙ (rw (is-function z p) refl)
+-- the next declaration
+record Next (b t : List ℕ) (x at : ℕ) (u : Zip (Iter ℕ) (Iter ℕ)) (c : ℕ) : Type 0 where
+  declaration : Declaration
+  there : RecordAt b at declaration
+  print : x ≡ print_in longest_text declaration
+  more : List Declaration
+  prints : iter_rest (zip_first u) ≡ prints_of longest_text more
+  places : AllAt (RecordAt b) (iter_rest (zip_second u)) more
+  few : c + 1 + length more ≤ 512
+  rest : find_output b t ≡ search_in t c (declaration ∷ more)
 
--- a fingerprint that is not that of the text
-unlike : (d : Declaration) (x h : ℕ) (t : List ℕ) → well_formed d ≡ true → x ≡ print_in longest_text d → h ≡ print 0 t → (x ≡ h → ⊥) → is_sought t d ≡ false
-unfolding is_sought
-unlike d x h t g e f n = go (is_function d && same_text (canonical_text d) (Some t)) refl
-  where
-    go : (c : Bool) → (is_function d && same_text (canonical_text d) (Some t)) ≡ c → c ≡ false
-    go true q =
-        let w : RecordOf (encode 4 d) d = record { bytes = refl; well = g } in
-        let s = (text_same (canonical_text d) (Some t)).0 (right (is_function d) q) in
-        absurd (n (e ∙ print-is (encode 4 d) d w longest_text (short_record (encode 4 d) d w) t s ∙ sym f))
-    go false q = refl
+next_in : (b t : List ℕ) (x at : ℕ) (u : Zip (Iter ℕ) (Iter ℕ)) (c : ℕ) (ds : List Declaration) (xs ats : List ℕ) → xs ≡ x ∷ iter_rest (zip_first u) → ats ≡ at ∷ iter_rest (zip_second u) → xs ≡ prints_of longest_text ds → AllAt (RecordAt b) ats ds
+    → c + length ds ≤ 512 → find_output b t ≡ search_in t c ds → Next b t x at u c
+unfolding prints_of
+next_in b t x at u c [] xs ats e f g no_place l h = absurd (omega (arith, ap length f))
+next_in b t x at u c (d ∷ ds) xs ats e f g (one_place {at = at₁} {ats = ats₁} i all) l h =
+    let p : x ∷ iter_rest (zip_first u) ≡ print_in longest_text d ∷ prints_of longest_text ds = sym e ∙ g in
+    let y : at₁ ≡ at = cc in
+    let z : ats₁ ≡ iter_rest (zip_second u) = cc in
+    record { declaration = d; there = rw (← y) i; print = cc; more = ds; prints = cc; places = rw (← z) all; few = omega (arith, l); rest = h }
 
-pub sought_unlike : (b : List ℕ) (x at h : ℕ) (t : List ℕ) → (x ≡ h → ⊥) → SoughtIs b x at h t false
-sought_unlike b x at h t n p = sym (unlike p.asked.declaration x h t p.asked.one.well p.here p.there n)
+pub search_start : (b t : List ℕ) (v : Notes) (s : Zip (Iter ℕ) (Iter ℕ)) → SheetNoted b v → iter_rest (zip_first s) ≡ v.prints.items → iter_rest (zip_second s) ≡ v.places.items → length v.prints.items ≤ 512 → Searching b t s 0
+unfolding find_output
+search_start b t v s h x y l = record {
+  declarations = h.declarations;
+  prints = x ∙ h.noted.same;
+  places = rw y h.noted.there;
+  few = omega (arith, prints-length h.noted);
+  rest = ap (λ o. search_by o t) h.sheet;
+}
 
--- The declarations that are noted.
+module _ (b t : List ℕ) (s u : Zip (Iter ℕ) (Iter ℕ)) (r : Option (Bor ℕ × Bor ℕ)) (step : zips fronts fronts s r u) (c : ℕ) (f : Searching b t s c) where
+  module _ (p : Bor ℕ × Bor ℕ) (e : r ≡ Some p) where
+    next : Next b t p.0.now p.1.now u c
+    next = let (x, y) = Zip-more s u r p e step in next_in b t p.0.now p.1.now u c f.declarations _ _ x y f.prints f.places f.few f.rest
 
-counted-more : (n : ℕ) (d : Declaration) → counted n d ≡ n + counted 0 d
-counted-more n d = go (is_function d)
-  where
-    go : (f : Bool) → elim f as (λ _. ℕ) [ true ↦ suc n | false ↦ n ] ≡ n + (elim f [ true ↦ 1 | false ↦ 0 ])
-    go true = omega arith
-    go false = omega arith
+    pub search_at : OneAt b p.1.now
+    search_at = record { declaration = next.declaration; one = next.there }
 
-module _ (b prints places : List ℕ) (n i : ℕ) (l : i < n) where
-  at_it : (p : AskedSearch b prints places n) → NotedAt (RecordAt b) longest_text (get_or prints i 0) (get_or places i 0) i p.declarations
-  at_it p = noted-at (RecordAt b) longest_text prints places n p.declarations p.noted i l
+    -- one that is a function, with that text or another, and another declaration
+    by_it : (g q : Bool) → is_function next.declaration ≡ g → same_text (canonical_text next.declaration) (Some t) ≡ q
+        → find_output b t ≡ elim (g && q) [ true ↦ found_at (elim g [ true ↦ suc c | false ↦ c ]) (elim g [ true ↦ suc c | false ↦ c ]) | false ↦ search_in t (elim g [ true ↦ suc c | false ↦ c ]) next.more ]
+    unfolding search_in is_sought
+    by_it g q x y =
+        let n : counted c next.declaration ≡ elim g [ true ↦ suc c | false ↦ c ] = ap (λ z. elim z as (λ _. ℕ) [ true ↦ suc c | false ↦ c ]) x in
+        next.rest ∙ ap₂ (λ z m. elim z as (λ _. Search) [ true ↦ found_at m m | false ↦ search_in t m next.more ]) (ap₂ ◌&&◌ x y) n
 
-  pub search_at : AskedSearch b prints places n → OneAt b (get_or places i 0)
-  search_at p = record { declaration = (at_it p).declaration; one = (at_it p).there }
+    pub search_pass : NoFunction b p.1.now → Searching b t u c
+    search_pass n = record { declarations = next.more; prints = next.prints; places = next.places; few = omega (arith, next.few); rest = by_it false _ (n.other next.declaration next.there) refl }
 
-  pub search_asks : (t : List ℕ) (h : ℕ) → h ≡ print 0 t → AskedSearch b prints places n → AskedSought b (get_or prints i 0) (get_or places i 0) h t
-  unfolding at_it search_at
-  search_asks t h e p = record { asked = search_at p; here = (at_it p).print; there = e }
+    module _ (q : List ℕ) (g : IsFunction b p.1.now q) where
+      pub search_record : OneRecord q
+      search_record = record { declaration = next.declaration; one = g.is next.declaration next.there }
 
-module _ (b t prints places : List ℕ) (n : ℕ) where
-  -- what is left from i on decides, with c functions before it
-  abbrev pub SearchRest : ℕ → ℕ → Type 0
-  SearchRest i c = (p : AskedSearch b prints places n) → search_in t 0 p.declarations ≡ search_in t c (drop i p.declarations)
+      module _ (h : ℕ) (w : Bool) (k : h ≡ print 0 t) (told : SoughtIs q p.0.now h t w) where
+        its-text : same_text (canonical_text next.declaration) (Some t) ≡ w
+        unfolding search_record
+        its-text = sym (told.same search_record next.print k)
 
-  module _ (i : ℕ) (l : i < n) (c k h : ℕ) (r : Bool) (one : CountAt b (get_or places i 0) k) (e : h ≡ print 0 t) (told : SoughtIs b (get_or prints i 0) (get_or places i 0) h t r) (rest : SearchRest i c) where
-    here : (p : AskedSearch b prints places n) → search_in t 0 p.declarations ≡ elim r [ true ↦ found_at (c + k) (c + k) | false ↦ search_in t (c + k) (drop (suc i) p.declarations) ]
-    unfolding search_in at_it search_at search_asks
-    here p =
-        let d = (at_it b prints places n i l p).declaration in
-        let m : counted c d ≡ c + k = counted-more c d ∙ ap (λ x. c + x) (sym (one.same (search_at b prints places n i l p))) in
-        let s : is_sought t d ≡ r = sym (told (search_asks b prints places n i l t h e p)) in
-        rest p ∙ ap (search_in t c) (at_it b prints places n i l p).split
-        ∙ ap₂ (λ x y. elim x as (λ _. Search) [ true ↦ found_at y y | false ↦ search_in t y (drop (suc i) p.declarations) ]) s m
+        pub search_hit : w ≡ true → found_at (c + 1) (c + 1) ≡ find_output b t
+        search_hit o = rw add-one (sym (by_it true true (g.function next.declaration next.there) (its-text ∙ o)))
 
-    pub search_hit : r ≡ true → SearchIs b t prints places n (found_at (c + k) (c + k))
-    search_hit q p = sym (here p ∙ rw q refl)
+        pub search_miss : w ≡ false → Searching b t u (c + 1)
+        search_miss o = record {
+          declarations = next.more;
+          prints = next.prints;
+          places = next.places;
+          few = next.few;
+          rest = by_it true false (g.function next.declaration next.there) (its-text ∙ o) ∙ rw add-one refl;
+        }
 
-    pub search_miss : r ≡ false → SearchRest (i + 1) (c + k)
-    search_miss q p = here p ∙ rw (q, add-one) refl
+  pub search_end : r ≡ None → not_found NoSuchFunction c ≡ find_output b t
+  unfolding search_in prints_of
+  search_end e = sym (f.rest ∙ ap (search_in t c) (go f.declarations (either_empty_from_Zip s u r e step) f.prints f.places))
+    where
+      go : (ds : List Declaration) → (iter_rest (zip_first s) ≡ []) ⊎ (iter_rest (zip_second s) ≡ []) → iter_rest (zip_first s) ≡ prints_of longest_text ds → AllAt (RecordAt b) (iter_rest (zip_second s)) ds → ds ≡ []
+      go [] o x y = refl
+      go (d ∷ ds) (inl z) x y = absurd (let q : [] ≡ prints_of longest_text (d ∷ ds) = sym z ∙ x in omega (arith, ap length q))
+      go (d ∷ ds) (inr z) x y = absurd (no-more _ d ds y z)
 
-  pub search_end : (i c : ℕ) → n ≤ i → SearchRest i c → SearchIs b t prints places n (not_found NoSuchFunction c)
-  unfolding search_in
-  search_end i c l rest p =
-      let k : length p.declarations ≤ i = omega (arith, noted-length (RecordAt b) longest_text prints places n p.declarations p.noted) in
-      sym (rest p ∙ ap (search_in t c) (drop_of_length-le p.declarations k))
-
--- The call.
-
-module _ (b prints places : List ℕ) (x : Indexed) (f : IndexIs b prints places x) where
-  pub find_asks : (n : ℕ) → x ≡ indexed.Sheet n → AskedSearch b prints places n
-  find_asks n e = let s = sheet-noted b prints places x f n e in record { declarations = s.declarations; noted = s.noted }
-
-  pub find_told : (t : List ℕ) (n : ℕ) (e : x ≡ indexed.Sheet n) (r : Search) → SearchIs b t prints places n r → r ≡ find_output b t
-  unfolding find_output find_asks
-  find_told t n e r g = g (find_asks n e) ∙ ap (λ o. search_by o t) (sym (sheet-noted b prints places x f n e).sheet)
-
-  pub find_none : (t : List ℕ) → x ≡ indexed.IllFormed → not_found NotWellFormed 0 ≡ find_output b t
-  unfolding find_output
-  find_none t e = ap (λ o. search_by o t) (sym (sheet-none b prints places x f e))
+pub find_none : (b t : List ℕ) → decode_sheet b ≡ None → not_found NotWellFormed 0 ≡ find_output b t
+unfolding find_output
+find_none b t e = ap (λ o. search_by o t) (sym e)

@@ -2,84 +2,68 @@
 // function by its canonical text.
 #![tactic(auto)]
 
-ghost use Rattle.std.specs.Prelude.{◌≡◌, not};
-ghost use Rattle.model.specs.Record.{is_absent, decode};
+ghost use Rattle.std.specs.Prelude.{◌≡◌, None, MatchOption};
+ghost use Rattle.model.specs.Sheet.{decode_sheet};
 ghost use Rattle.model.specs.Find.{find_output};
+ghost use Rattle.repeat.specs.Pairs.{RecordOf};
 ghost use Rattle.repeat.specs.Prints.{OneRecord};
-ghost use Rattle.index.specs.Indexes.{SheetHead, WholePrint, AskedAt, RepeatsAt, AskedPrint, PrintRepeats, AskedBefore, HasBefore, AskedNote, NoteIs, Tables, AskedParts, IndexIs};
-ghost use Rattle.index.specs.Searches.{AskedText, TextIs, OneAt, CountAt, SoughtAt, AskedSought, SoughtIs, AskedSearch, SearchIs};
+ghost use Rattle.index.specs.Indexes.{AreRecords, PartIs, WholePrint, OneAt, ItsRecord, AskedAt, RepeatsAt, AskedNote, NoteIs, SheetNoted, IndexIs};
+ghost use Rattle.index.specs.Searches.{AskedText, TextIs, NoFunction, IsFunction, SoughtIs};
 
-use model::{Answer, Found, Missing, Refusal, Refused, Search};
-use record::Checked;
-
-// A record begins with its length in four bytes and its kind in two.
-const KIND: usize = 4;
-
-const HEAD: usize = 6;
-
-// Kinds of record.
-const FUNCTION: usize = 0x20;
-
-const SHEET: usize = 0x30;
-
-// "at most 512 well-formed declarations"
-pub const MOST_DECLARATIONS: usize = 512;
+use layout::{FUNCTION, SHEET};
+use model::{Found, Missing, Refusal, Search};
+use record::{Checked, Piece};
+use repeat::Notes;
 
 // A canonical text has fewer bytes than twice its record, which has at most 40,960. Most fit a smaller scratch, which is cleared in less time.
 const LONGEST_TEXT: usize = 81920;
 
-pub const USUAL_TEXT: usize = 8192;
+const USUAL_TEXT: usize = 8192;
 
-// What lent bytes are: a sheet of so many declarations, or no well-formed sheet.
-#[derive(Clone, Copy)]
-pub enum Indexed {
-    Sheet { count: usize },
-    IllFormed,
+// The records in a sheet's record, if bytes are one.
+#[tactic(auto, using(crate::proofs::Parts::heads))]
+fn records(sheet: &[u8]) -> Option<&[u8]>
+    ensures { MatchOption result (decode_sheet sheet.now ≡ None) (λ r. AreRecords sheet.now r.now) }
+{
+    let piece = Piece::parse(sheet)?;
+    if piece.kind != SHEET || !piece.rest.is_empty() {
+        return None;
+    }
+    Some(piece.body)
 }
 
-// Whether bytes are one record of a sheet's kind.
-fn is_sheet(b: &[u8]) -> bool
-    ensures { SheetHead b.now result }
-{
-    let n = record::record_length(b);
-    if n < HEAD {
-        return false;
-    }
-    if n < b.len() {
-        return false;
-    }
-    layout::get2(b, KIND) == SHEET
+// A declaration's record, and the bytes behind it.
+#[derive(Clone, Copy, Debug, PartialEq, Eq)]
+struct Part<'a> {
+    record: &'a [u8],
+    rest: &'a [u8],
 }
 
-// Whether a part is a well-formed declaration.
-fn is_declaration(part: &[u8]) -> bool
-    ensures { result ≡ not (is_absent (decode part.now)) }
+// The well-formed declaration that bytes begin with.
+fn first(left: &[u8]) -> Option<Part<'_>>
+    ensures { PartIs left.now result }
 {
-    let c = record::check(part);
-    match c {
-        Checked::Declared {
-            keyword,
-            name,
-            inputs,
-            outputs,
-        } => true,
-        Checked::Constructor => true,
-        Checked::Field { name, kind } => false,
-        Checked::IllFormed => false,
+    let rest = Piece::parse(left)?.rest;
+    let record = &left[..left.len() - rest.len()];
+    match record::check(record)? {
+        Checked::Declared { .. } | Checked::Constructor { .. } => Some(Part { record, rest }),
+        Checked::Field { .. } => None,
     }
 }
 
 // The fingerprint of a declaration whose text may have any length.
+#[tactic(auto, using(crate::proofs::Places::printing))]
 fn long_print(record: &[u8]) -> u32
     requires { OneRecord «record».now }
     ensures { WholePrint «record».now result }
 {
-    let mut text = [0u8; LONGEST_TEXT];
+    let mut text = [0; LONGEST_TEXT];
     repeat::fingerprint(record, &mut text)
 }
 
 // The fingerprint of a declaration. The scratch is used where it has room for any text of such a record.
-pub fn print_of(record: &[u8], scratch: &mut [u8]) -> u32
+#[tactic(auto, using(crate::proofs::Places::printing))]
+fn print_of(record: &[u8], scratch: &mut [u8]) -> u32
     requires { OneRecord «record».now }
     ensures { WholePrint «record».now result }
 {
@@ -89,115 +73,64 @@ pub fn print_of(record: &[u8], scratch: &mut [u8]) -> u32
     repeat::fingerprint(record, scratch)
 }
 
+// The record of the declaration at a place of a sheet.
+#[tactic(auto, using(crate::proofs::Places::placing))]
+fn record_at(sheet: &[u8], at: usize) -> &[u8]
+    requires { OneAt sheet.now at }
+    ensures { ItsRecord sheet.now at result.now }
+{
+    let left = &sheet[at..];
+    let rest = Piece::first(left).rest;
+    &left[..left.len() - rest.len()]
+}
+
 // Whether the declaration at a place of a sheet repeats a record.
+#[tactic(auto, using(crate::proofs::Places::placing))]
 fn repeats_at(sheet: &[u8], at: usize, record: &[u8]) -> bool
     requires { AskedAt sheet.now at «record».now }
     ensures { RepeatsAt sheet.now at «record».now result }
 {
-    let t = &sheet[at..];
-    let n = layout::get4(t, 0);
-    repeat::repeats(&t[..n], record)
+    repeat::repeats(record_at(sheet, at), record)
 }
 
-// The same, where their fingerprints are known: only equal ones are looked at.
-fn print_repeats(sheet: &[u8], print: u32, at: usize, h: u32, record: &[u8]) -> bool
-    requires { AskedPrint sheet.now print at h «record».now }
-    ensures { PrintRepeats sheet.now print at h «record».now result }
+// Notes a declaration and its place in a sheet; none where it is one too many, or repeats an earlier one.
+#[tactic(auto, using(crate::proofs::Walking::noting))]
+fn note(sheet: &[u8], at: usize, record: &[u8], scratch: &mut [u8], notes: &mut Notes) -> Option<()>
+    requires { AskedNote sheet.now at «record».now notes.old }
+    ensures { NoteIs sheet.now at «record».now notes.old notes.new result }
 {
-    if print == h {
-        return repeats_at(sheet, at, record);
+    if notes.is_full() {
+        return None;
     }
-    false
+    let print = print_of(record, scratch);
+    if notes.repeats(print, |place| repeats_at(sheet, place, record)) {
+        return None;
+    }
+    notes.push(print, at);
+    Some(())
 }
 
-// Whether a record repeats one of the first n declarations that were noted.
-fn earlier(sheet: &[u8], prints: &[u32], places: &[usize], n: usize, h: u32, record: &[u8]) -> bool
-    requires { AskedBefore sheet.now prints.now places.now n h «record».now }
-    ensures { HasBefore sheet.now prints.now places.now n h «record».now result }
+// The fingerprints and places of a sheet's declarations, if lent bytes are a well-formed sheet: "at most 512 well-formed declarations that 23 below
+// wouldn't refuse".
+pub fn index(sheet: &[u8]) -> Option<Notes>
+    ensures { IndexIs sheet.now result }
 {
-    let mut i = 0;
-    while i < n {
-        if print_repeats(sheet, prints[i], places[i], h, record) {
-            return true;
-        }
-        i += 1;
+    let mut scratch = [0; USUAL_TEXT];
+    let mut notes = Notes::new();
+    let mut left = records(sheet)?;
+    // A walk over pieces: a loop (`record::Piece`).
+    while !left.is_empty() {
+        let part = first(left)?;
+        note(
+            sheet,
+            sheet.len() - left.len(),
+            part.record,
+            &mut scratch,
+            &mut notes,
+        )?;
+        left = part.rest;
     }
-    false
-}
-
-// The same: most fingerprints are not among those before.
-pub fn has(sheet: &[u8], prints: &[u32], places: &[usize], n: usize, h: u32, record: &[u8]) -> bool
-    requires { AskedBefore sheet.now prints.now places.now n h «record».now }
-    ensures { HasBefore sheet.now prints.now places.now n h «record».now result }
-{
-    if repeat::among(prints, n, h) {
-        return earlier(sheet, prints, places, n, h, record);
-    }
-    false
-}
-
-// Notes the declaration at a place, and answers the place behind it; 0 where there is none, or one too many, or one that repeats an earlier one.
-fn note(
-    sheet: &[u8],
-    at: usize,
-    n: usize,
-    scratch: &mut [u8],
-    prints: &mut [u32],
-    places: &mut [usize],
-) -> usize
-    requires { AskedNote sheet.now at n prints.old places.old }
-    ensures { NoteIs sheet.now at n prints.old places.old prints.new places.new result }
-{
-    let t = &sheet[at..];
-    let l = record::record_length(t);
-    if l < HEAD {
-        return 0;
-    }
-    let part = &t[..l];
-    if is_declaration(part) {
-        if n < MOST_DECLARATIONS {
-            let h = print_of(part, scratch);
-            if has(sheet, prints, places, n, h, part) {
-                return 0;
-            }
-            prints[n] = h;
-            places[n] = at;
-            return at + l;
-        }
-        return 0;
-    }
-    0
-}
-
-// The declarations of a sheet, one by one.
-fn parts(sheet: &[u8], prints: &mut [u32], places: &mut [usize]) -> Indexed
-    requires { AskedParts sheet.now prints.old places.old }
-    ensures { IndexIs sheet.now prints.new places.new result }
-{
-    let mut scratch = [0u8; USUAL_TEXT];
-    let mut at = HEAD;
-    let mut count = 0;
-    while at < sheet.len() {
-        let end = note(sheet, at, count, &mut scratch, prints, places);
-        if end == 0 {
-            return Indexed::IllFormed;
-        }
-        at = end;
-        count += 1;
-    }
-    Indexed::Sheet { count }
-}
-
-// Whether lent bytes are a well-formed sheet: "at most 512 well-formed declarations that 23 below wouldn't refuse". If so, the fingerprint and the
-// place of each are noted.
-pub fn index(sheet: &[u8], prints: &mut [u32], places: &mut [usize]) -> Indexed
-    requires { Tables prints.old places.old }
-    ensures { IndexIs sheet.now prints.new places.new result }
-{
-    if is_sheet(sheet) {
-        return parts(sheet, prints, places);
-    }
-    Indexed::IllFormed
+    Some(notes)
 }
 
 // Finding.
@@ -207,10 +140,9 @@ fn line_is(record: &[u8], text: &[u8], line: &mut [u8]) -> bool
     requires { AskedText «record».now line.old }
     ensures { TextIs «record».now text.now result }
 {
-    let r = abi::canonical(record, line);
-    match r {
-        Ok(length) => text::equal(&line[..length], text),
-        Err(Refused { refusal, position }) => false,
+    match abi::canonical(record, line) {
+        Ok(length) => &line[..length] == text,
+        Err(_) => false,
     }
 }
 
@@ -218,7 +150,7 @@ fn long_line_is(record: &[u8], text: &[u8]) -> bool
     requires { OneRecord «record».now }
     ensures { TextIs «record».now text.now result }
 {
-    let mut line = [0u8; LONGEST_TEXT];
+    let mut line = [0; LONGEST_TEXT];
     line_is(record, text, &mut line)
 }
 
@@ -230,64 +162,51 @@ fn text_is(record: &[u8], text: &[u8]) -> bool
     if USUAL_TEXT / 2 < record.len() {
         return long_line_is(record, text);
     }
-    let mut line = [0u8; USUAL_TEXT];
+    let mut line = [0; USUAL_TEXT];
     line_is(record, text, &mut line)
 }
 
-// Whether the declaration at a place is a function with that text.
-fn sought_at(sheet: &[u8], at: usize, text: &[u8]) -> bool
-    requires { OneAt sheet.now at }
-    ensures { SoughtAt sheet.now at text.now result }
+// The same, where its fingerprint and that of the text are known: only equal ones are looked at.
+#[tactic(auto, using(crate::proofs::Searching::seeking))]
+fn is_sought(record: &[u8], known: u32, print: u32, text: &[u8]) -> bool
+    requires { OneRecord «record».now }
+    ensures { SoughtIs «record».now known print text.now result }
 {
-    let t = &sheet[at..];
-    if layout::get2(t, KIND) == FUNCTION {
-        let n = layout::get4(t, 0);
-        return text_is(&t[..n], text);
-    }
-    false
+    known == print && text_is(record, text)
 }
 
-// The same, where its fingerprint and that of the text are known.
-fn is_sought(sheet: &[u8], print: u32, at: usize, h: u32, text: &[u8]) -> bool
-    requires { AskedSought sheet.now print at h text.now }
-    ensures { SoughtIs sheet.now print at h text.now result }
-{
-    if print == h {
-        return sought_at(sheet, at, text);
-    }
-    false
-}
-
-// "counting functions only": 1 for a function at a place, 0 for another declaration.
-fn function_at(sheet: &[u8], at: usize) -> usize
+// "counting functions only": the record at a place of a sheet, if it is a function's.
+fn function_at(sheet: &[u8], at: usize) -> Option<&[u8]>
     requires { OneAt sheet.now at }
-    ensures { CountAt sheet.now at result }
+    ensures { MatchOption result (NoFunction sheet.now at) (λ r. IsFunction sheet.now at r.now) }
 {
-    let t = &sheet[at..];
-    if layout::get2(t, KIND) == FUNCTION {
-        return 1;
+    let record = record_at(sheet, at);
+    let piece = Piece::first(record);
+    if piece.kind == FUNCTION {
+        Some(record)
+    } else {
+        None
     }
-    0
 }
 
 // The declarations of a sheet, one by one.
-fn search(sheet: &[u8], text: &[u8], prints: &[u32], places: &[usize], n: usize) -> Search
-    requires { AskedSearch sheet.now prints.now places.now n }
-    ensures { SearchIs sheet.now text.now prints.now places.now n result }
+fn search(sheet: &[u8], text: &[u8], notes: &Notes) -> Search
+    requires { SheetNoted sheet.now notes.now }
+    ensures { result ≡ find_output sheet.now text.now }
 {
-    let h = repeat::print(text);
+    let print = repeat::print(text);
     let mut compared = 0;
-    let mut i = 0;
-    while i < n {
-        let at = places[i];
-        compared += function_at(sheet, at);
-        if is_sought(sheet, prints[i], at, h, text) {
+    for (known, place) in notes.prints.as_slice().iter().zip(notes.places.as_slice()) {
+        let Some(record) = function_at(sheet, *place) else {
+            continue;
+        };
+        compared += 1;
+        if is_sought(record, *known, print, text) {
             return Ok(Found {
                 place: compared,
                 compared,
             });
         }
-        i += 1;
     }
     Err(Missing {
         refusal: Refusal::NoSuchFunction,
@@ -299,14 +218,11 @@ fn search(sheet: &[u8], text: &[u8], prints: &[u32], places: &[usize], n: usize)
 pub fn find(sheet: &[u8], text: &[u8]) -> Search
     ensures { result ≡ find_output sheet.now text.now }
 {
-    let mut prints = [0u32; MOST_DECLARATIONS];
-    let mut places = [0usize; MOST_DECLARATIONS];
-    let r = index(sheet, &mut prints, &mut places);
-    match r {
-        Indexed::Sheet { count } => search(sheet, text, &prints, &places, count),
-        Indexed::IllFormed => Err(Missing {
+    let Some(notes) = index(sheet) else {
+        return Err(Missing {
             refusal: Refusal::NotWellFormed,
             compared: 0,
-        }),
-    }
+        });
+    };
+    search(sheet, text, &notes)
 }

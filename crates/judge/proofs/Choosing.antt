@@ -1,9 +1,11 @@
 -- The elements of an array, one by one, the one that takes most left for the end.
 -- Assumes nothing.
-use mathlib.Core.Path.{◌≡◌, refl, sym, ◌∙◌, ap}
-use mathlib.Core.Logic.{inl, inr, ⊎_elim}
+use mathlib.Core.Path.{◌≡◌, sym, ◌∙◌, ap, subst}
+use mathlib.Core.Logic.{⊎_elim}
 use mathlib.Core.Bool.{Bool, true, false, ◌&&◌, and-true, and-false, and_assoc, and_comm}
 use mathlib.Core.List.{List}
+use Rattle.std.specs.Prelude.{Option, None, Some}
+use Rattle.std.specs.Borrow.{Bor}
 use Prim.Native.Nat.{ℕ, zero, suc, ◌+◌, ◌*◌, ◌-◌, ◌≤◌, ◌<◌}
 use native.Mathlib.Omega.{arith}
 use lib.Dec.{leb, eqb}
@@ -12,208 +14,181 @@ use borrow.Author.Tests.{le-leb, lt-leb}
 use Rattle.kinds.specs.Bytes.{same}
 use Rattle.kinds.specs.Kind.{sized, Kind, is_kind}
 use Rattle.model.specs.Reading.{FieldKind}
-use Rattle.record.specs.declared.Spot.{Spot}
-use Rattle.record.specs.Encoded.{KindIs}
 use Rattle.encoding.specs.Dynamic.{is_dynamic}
 use Rattle.encoding.specs.Words.{word}
-use Rattle.encoding.specs.Judge.{given, when, slot, word_at, has_word, follow, group, end_of, ends_at}
+use Rattle.encoding.specs.Judge.{given, slot, word_at, has_word, follow, group, end_of, ends_at}
 use Rattle.encoding.proofs.Lengths.{head-dynamic}
 use Rattle.extent.specs.Walks.{tree_of}
+use Rattle.judge.specs.Fits.{fits, Data, DynamicIs, FitsKind}
 use Rattle.judge.specs.declared.Step.TheVariants as step
-use Rattle.judge.specs.declared.Two.{Two}
-use Rattle.judge.specs.Fits.{fits, part, Data, SomeDynamic, FitsKind}
-use Rattle.judge.specs.Steps.{Inside, SizedStep, Heads, EndSays, Sorted}
-use Rattle.judge.proofs.Slices.{kind-valid, end-inside, slice_fits, part_data}
-use Rattle.judge.proofs.Saying.{eqb-turned, goes_on, stops, given-same, when-ends}
+use Rattle.judge.specs.Steps.{ElementsStep, Heads, HeadSays, EndSays, Sorted}
+use Rattle.judge.proofs.Parts.{part, part_data, kind-valid, end-inside, part_fits}
+use Rattle.judge.proofs.Saying.{eqb-turned, goes_on, given-same, when-ends}
 
 module _ (d : List ℕ) (k : Kind) where
   -- m elements behind one that begins at s, the first of their heads at h
   left : ℕ → ℕ → ℕ → Bool
   left m h s = ends_at (length d) (given (end_of d k s) (λ e. follow d (replicate m (slot true (λ a. end_of d k a))) 0 h e))
 
-  -- the same with none before, where n are left
+  -- m elements of which the first begins at s, with its head at h
   others : ℕ → ℕ → ℕ → Bool
   others zero h s = true
   others (suc m) h s = left m (h + 32) s
 
-  module _ (q : Data d) (g : is_kind k ≡ true) (seam : ℕ) where
-    tested : (h y : ℕ) → (has_word d h && same (word_at d h) (word (y - 0))) ≡ (has_word d h && same (word_at d h) (word y))
-    tested h y = let z : y - 0 ≡ y = omega arith in rw z
+  -- the one that begins at s ends nowhere, or at c
+  abbrev Ended : ℕ → ℕ → ℕ → Option ℕ → Type 0
+  Ended m h s None = left m h s ≡ false
+  Ended m h s (Some c) = (s ≤ c) × (c ≤ length d) × (left m h s ≡ (fits k (part d s c) && others m h c))
 
-    -- the one that begins at s ends where the next head says
-    closed : (m h s c : ℕ) → h + 32 * m ≡ seam → s ≤ length d → EndSays d s h seam c → c ≤ length d → left m h s ≡ (ends_at c (end_of d k s) && others m h c)
-    unfolding left others follow
-    closed zero h s c e l x n =
-        let z : c ≡ length d = x.last (omega arith) in
-        ap (ends_at (length d)) (given-same (end_of d k s)) ∙ ap (λ y. ends_at y (end_of d k s)) (sym z) ∙ sym (and-true (ends_at c (end_of d k s)))
-    closed (suc m) h s c e l x n =
-        goes_on (length d) (λ y. has_word d h && same (word_at d h) (word (y - 0))) (λ y. given (end_of d k y) (λ a. follow d (replicate m (slot true (λ b. end_of d k b))) 0 (h + 32) a)) (end_of d k s) c
-        (λ y f. tested h y ∙ ((x.next (omega arith)).some n).1 y (end-inside k g d q s y l f).1)
+  closed : Data d → is_kind k ≡ true → (seam m h s : ℕ) (r : Option ℕ) → h + 32 * m ≡ seam → s ≤ length d → EndSays d s h seam r → Ended m h s r
+  unfolding left others follow
+  closed q g seam zero h s r e l x =
+      subst (Ended zero h s) (sym (x.last (omega arith)))
+      (l, omega arith, ap (ends_at (length d)) (given-same (end_of d k s)) ∙ part_fits k g d q s (length d) l (omega arith) ∙ sym (and-true _))
+  closed q g seam (suc m) h s r e l x = go r (x.next (omega arith))
+    where
+      F : ℕ → Option ℕ
+      F y = given (end_of d k y) (λ a. follow d (replicate m (slot true (λ b. end_of d k b))) 0 (h + 32) a)
 
-    not-closed : (m h s c : ℕ) → h + 32 * m ≡ seam → s ≤ length d → EndSays d s h seam c → length d < c → left m h s ≡ false
-    unfolding left follow
-    not-closed zero h s c e l x n = absurd (omega (arith, x.last (omega arith)))
-    not-closed (suc m) h s c e l x n =
-        stops (length d) (λ y. has_word d h && same (word_at d h) (word (y - 0))) (λ y. given (end_of d k y) (λ a. follow d (replicate m (slot true (λ b. end_of d k b))) 0 (h + 32) a)) (end_of d k s)
-        (λ y f. let i = end-inside k g d q s y l f in tested h y ∙ (x.next (omega arith)).none n y i.0 i.1)
+      go : (r : Option ℕ) → HeadSays d s h r → Ended (suc m) h s r
+      go None y = goes_on d s h F None (end_of d k s) y (λ e f. end-inside k g d q s e l f)
+      go (Some c) y =
+          let fit = part_fits k g d q s c y.0 y.1 in
+          (y.0, y.1, goes_on d s h F (Some c) (end_of d k s) y (λ e f. end-inside k g d q s e l f) ∙ ap (λ b. b && ends_at (length d) (F c)) fit)
 
   -- all of them
-  module _ (v : is_dynamic k ≡ true) where
-    array-end : (n : ℕ) → end_of d (Kind.array k (sized n)) 0 ≡ when (leb (32 * n) (length d)) (follow d (replicate n (slot true (λ a. end_of d k a))) 0 0 (32 * n))
-    unfolding end_of group
-    array-end n = let z : 0 + n * 32 ≡ 32 * n = omega arith in rw (v, head-dynamic k v, z)
+  module _ (v : is_dynamic k ≡ true) (n : ℕ) where
+    -- their heads, and then they
+    follow-all : ℕ → Option ℕ
+    follow-all m = follow d (replicate m (slot true (λ a. end_of d k a))) 0 0 (32 * n)
 
-    pub fits-none : (n : ℕ) → n ≡ 0 → eqb (length d) 0 ≡ fits (Kind.array k (sized n)) d
-    unfolding fits follow
-    fits-none n e = rw (e, array-end 0, le-leb 0 (length d) (omega arith)) (eqb-turned (length d) 0)
+    array-is : fits (Kind.array k (sized n)) d ≡ (leb (32 * n) (length d) && ends_at (length d) (follow-all n))
+    unfolding fits end_of group follow-all
+    array-is = let z : 0 + n * 32 ≡ 32 * n = omega arith in rw (v, head-dynamic k v, z) (when-ends (length d) (leb (32 * n) (length d)) (follow-all n))
 
-    pub fits_over : (n : ℕ) → length d < 32 * n → false ≡ fits (Kind.array k (sized n)) d
-    unfolding fits
-    fits_over n h = sym (ap (ends_at (length d)) (array-end n ∙ ap (λ t. when t (follow d (replicate n (slot true (λ a. end_of d k a))) 0 0 (32 * n))) (lt-leb (32 * n) (length d) h)))
+    pub fits-none : n ≡ 0 → fits (Kind.array k (sized n)) d ≡ eqb (length d) 0
+    unfolding follow follow-all
+    fits-none e = array-is ∙ rw (e, le-leb 0 (length d) (omega arith)) (eqb-turned 0 (length d))
 
-    fits-first : (n : ℕ) → 1 ≤ n → 32 * n ≤ length d → fits (Kind.array k (sized n)) d ≡ ((has_word d 0 && same (word_at d 0) (word (32 * n))) && left (n - 1) 32 (32 * n))
-    unfolding fits follow left
-    fits-first n h l =
+    pub fits_over : length d < 32 * n → fits (Kind.array k (sized n)) d ≡ false
+    fits_over h = array-is ∙ rw (lt-leb (32 * n) (length d) h)
+
+    fits-first : 1 ≤ n → 32 * n ≤ length d
+        → fits (Kind.array k (sized n)) d ≡ ((has_word d 0 && same (word_at d 0) (word (32 * n))) && left (n - 1) 32 (32 * n))
+    unfolding follow left follow-all
+    fits-first h l =
         let m : n ≡ suc (n - 1) = omega arith in
         let z : 32 * n - 0 ≡ 32 * n = omega arith in
-        let T : Bool = has_word d 0 && same (word_at d 0) (word (32 * n - 0)) in
-        ap (ends_at (length d)) (array-end n ∙ ap (λ t. when t (follow d (replicate n (slot true (λ a. end_of d k a))) 0 0 (32 * n))) (le-leb (32 * n) (length d) l) ∙ ap (λ x. follow d (replicate x (slot true (λ a. end_of d k a))) 0 0 (32 * n)) m)
-        ∙ when-ends (length d) T (given (end_of d k (32 * n)) (λ e. follow d (replicate (n - 1) (slot true (λ a. end_of d k a))) 0 32 e))
+        let others = follow d (replicate (n - 1) (slot true (λ a. end_of d k a))) 0 32 in
+        array-is ∙ ap (λ b. b && ends_at (length d) (follow-all n)) (le-leb (32 * n) (length d) l) ∙ ap (λ x. ends_at (length d) (follow-all x)) m
+        ∙ when-ends (length d) (has_word d 0 && same (word_at d 0) (word (32 * n - 0))) (given (end_of d k (32 * n)) (λ e. others e))
         ∙ ap (λ y. (has_word d 0 && same (word_at d 0) (word y)) && left (n - 1) 32 (32 * n)) z
 
 -- Two parts.
 
-pub sorted_as : (a b : Spot) → Sorted a b (record { short = a; long = b })
-sorted_as a b = inl refl
+module _ (a b short long : List ℕ) (s : Sorted a b short long) where
+  sorted_all : (Q : List ℕ → Type 0) → Q a → Q b → Q short × Q long
+  sorted_all Q x y = ⊎_elim (λ e. rw (e.0, e.1) (x, y)) (λ e. rw (e.0, e.1) (y, x)) s
 
-pub sorted_turned : (a b : Spot) → Sorted a b (record { short = b; long = a })
-sorted_turned a b = inr refl
-
-module _ (a b : Spot) (r : Two) (s : Sorted a b r) where
-  sorted_all : (Q : Spot → Type 0) → Q a → Q b → Q r.short × Q r.long
-  sorted_all Q x y = ⊎_elim (λ e. (rw e x, rw e y)) (λ e. (rw e y, rw e x)) s
-
-  sorted_both : (P : Spot → Bool) → (P a && P b) ≡ (P r.short && P r.long)
-  sorted_both P = ⊎_elim (λ e. rw e) (λ e. rw e (and_comm (P a) (P b))) s
+  sorted_both : (P : List ℕ → Bool) → (P a && P b) ≡ (P short && P long)
+  sorted_both P = ⊎_elim (λ e. rw (e.0, e.1)) (λ e. rw (e.0, e.1) (and_comm (P a) (P b))) s
 
 -- The loop.
 
-module _ (t d : List ℕ) (n : ℕ) (w : Heads t d n) where
-  -- whether a part is an element
-  abbrev one : FieldKind → Spot → Bool
-  one k s = ends_at s.to (end_of d (tree_of k) s.from)
-
+module _ {t d : List ℕ} {n : ℕ} (w : Heads t d n) where
   abbrev whole : FieldKind → Bool
   whole k = fits (Kind.array (tree_of k) (sized n)) d
 
-  valid : (k : FieldKind) → KindIs t k → is_kind (tree_of k) ≡ true
-  valid k i = kind-valid t k i
+  -- where the element that begins at s ends, m being left behind it
+  ended : (m h s : ℕ) (r : Option ℕ) → h + 32 * m ≡ 32 * n → s ≤ length d → EndSays d s h (32 * n) r → (k : FieldKind) → DynamicIs t k
+      → Ended d (tree_of k) m h s r
+  ended m h s r e l x k i = closed d (tree_of k) w.ready (kind-valid t k i.is) (32 * n) m h s r e l x
 
-  first-told : (k : FieldKind) → KindIs t k → whole k ≡ ((has_word d 0 && same (word_at d 0) (word (32 * n))) && left d (tree_of k) (n - 1) 32 (32 * n))
-  first-told k i = fits-first d (tree_of k) (w.dynamic k i) n w.least w.room
+  first-told : (k : FieldKind) → DynamicIs t k → whole k ≡ ((has_word d 0 && same (word_at d 0) (word (32 * n))) && left d (tree_of k) (n - 1) 32 (32 * n))
+  first-told k i = fits-first d (tree_of k) i.dynamic n w.least w.room
 
-  pub first-bad : false ≡ (has_word d 0 && same (word_at d 0) (word (32 * n))) → SizedStep t d n (step.Told false)
-  first-bad e k i = sym (first-told k i ∙ ap (λ b. b && left d (tree_of k) (n - 1) 32 (32 * n)) (sym e))
+  pub first-bad : false ≡ (has_word d 0 && same (word_at d 0) (word (32 * n))) → ElementsStep t d n None
+  first-bad e k i = first-told k i ∙ ap (λ b. b && left d (tree_of k) (n - 1) 32 (32 * n)) (sym e)
+
+  -- i elements have ended, all but one of them judged; the next begins at s
+  pub record Chosen (i s : ℕ) (most : List ℕ) : Type 0 where
+    pub begun : 1 ≤ i
+    pub order : i ≤ n
+    pub start : s ≤ length d
+    pub ready : Data most
+    all : (k : FieldKind) → DynamicIs t k → whole k ≡ (fits (tree_of k) most && others d (tree_of k) (n - i) (32 * i) s)
 
   module _ (e : true ≡ (has_word d 0 && same (word_at d 0) (word (32 * n)))) where
-    first-left : (k : FieldKind) → KindIs t k → whole k ≡ left d (tree_of k) (n - 1) 32 (32 * n)
+    first-left : (k : FieldKind) → DynamicIs t k → whole k ≡ left d (tree_of k) (n - 1) 32 (32 * n)
     first-left k i = first-told k i ∙ ap (λ b. b && left d (tree_of k) (n - 1) 32 (32 * n)) (sym e)
 
-    module _ (c : ℕ) (x : EndSays d (32 * n) 32 (32 * n) c) where
-      pub first_open : length d < c → SizedStep t d n (step.Told false)
-      first_open h k i = sym (first-left k i ∙ not-closed d (tree_of k) w.ready (valid k i) (32 * n) (n - 1) 32 (32 * n) c (omega (arith, w.least)) w.room x h)
+    pub first_open : EndSays d (32 * n) 32 (32 * n) None → ElementsStep t d n None
+    first_open x k i = first-left k i ∙ ended (n - 1) 32 (32 * n) None (omega (arith, w.least)) w.room x k i
 
-  -- some elements are judged; that at s is next, with its head at h, and those are left
-  pub record Chosen (m h s : ℕ) (most : Spot) : Type 0 where
-    pub heads : h + 32 * m ≡ 32 * n
-    pub start : s ≤ length d
-    pub inside : Inside d most.from most.to
-    all : (k : FieldKind) → KindIs t k → whole k ≡ (one k most && others d (tree_of k) m h s)
+    pub chosen-start : (c : ℕ) → EndSays d (32 * n) 32 (32 * n) (Some c) → Chosen 1 c (part d (32 * n) c)
+    chosen-start c x =
+        let y = ended (n - 1) 32 (32 * n) (Some c) (omega (arith, w.least)) w.room x in
+        let z = y w.some.0 w.some.1 in
+        record { begun = omega arith; order = w.least; start = z.1; ready = part_data d (32 * n) c z.0 z.1 w.ready; all = λ k i. first-left k i ∙ (y k i).2 }
 
-  pub chosen-start : true ≡ (has_word d 0 && same (word_at d 0) (word (32 * n))) → (c : ℕ) → EndSays d (32 * n) 32 (32 * n) c → c ≤ length d → Chosen (n - 1) 32 c (record { from = 32 * n; to = c })
-  chosen-start e c x h = record {
-    heads = omega (arith, w.least);
-    start = h;
-    inside = record { order = begins; inside = h };
-    all = λ k i. first-left e k i ∙ closed d (tree_of k) w.ready (valid k i) (32 * n) (n - 1) 32 (32 * n) c (omega (arith, w.least)) w.room x h;
-  }
-    where
-      begins : 32 * n ≤ c
-      begins = go (n - 1) refl
-        where
-          go : (m : ℕ) → n - 1 ≡ m → 32 * n ≤ c
-          go zero f = omega (arith, x.last (omega (arith, w.least)), w.room)
-          go (suc m) f = ((x.next (omega arith)).some h).0
-
-  module _ (m h s : ℕ) (most : Spot) (v : Chosen m h s most) where
-    pub chosen-end : m ≡ 0 → SizedStep t d n (step.Down most.from most.to)
+  module _ {i s : ℕ} {most : List ℕ} (v : Chosen i s most) where
+    pub chosen-end : (p : Bor (List ℕ)) → p.now ≡ most → i ≡ n → ElementsStep t d n (Some (step.Down p))
     unfolding others
-    chosen-end e = (
-      v.inside,
-      λ k i. record {
-        dynamic = w.dynamic k i;
-        same = v.all k i ∙ ap (λ x. one k most && others d (tree_of k) x h s) e ∙ and-true (one k most) ∙ slice_fits (tree_of k) (valid k i) d w.ready most.from most.to v.inside.order v.inside.inside;
-      },
-    )
+    chosen-end p f e k j =
+        let z : n - i ≡ 0 = omega arith in
+        let one = v.all k j ∙ ap (λ x. fits (tree_of k) most && others d (tree_of k) x (32 * i) s) z ∙ and-true (fits (tree_of k) most) in
+        record { ready = subst Data (sym f) v.ready; dynamic = j.dynamic; same = one ∙ ap (fits (tree_of k)) (sym f) }
 
-    module _ (l : 0 < m) where
-      pub next-head : h + 32 ≤ length d
-      next-head = omega (arith, v.heads, w.room)
+    module _ (l : i < n) {r : Option ℕ} (x : EndSays d s (32 * (i + 1)) (32 * n) r) where
+      next-ended : (k : FieldKind) → DynamicIs t k → Ended d (tree_of k) (n - (i + 1)) (32 * (i + 1)) s r
+      next-ended = ended (n - (i + 1)) (32 * (i + 1)) s r (omega arith) v.start x
 
-      module _ (c : ℕ) (x : EndSays d s (h + 32) (32 * n) c) where
-        next-left : (k : FieldKind) → KindIs t k → whole k ≡ (one k most && left d (tree_of k) (m - 1) (h + 32) s)
-        unfolding others
-        next-left k i = let z : m ≡ suc (m - 1) = omega arith in v.all k i ∙ ap (λ y. one k most && others d (tree_of k) y h s) z
+      next-left : (k : FieldKind) → DynamicIs t k → whole k ≡ (fits (tree_of k) most && left d (tree_of k) (n - (i + 1)) (32 * (i + 1)) s)
+      unfolding others
+      next-left k j =
+          let z : n - i ≡ suc (n - (i + 1)) = omega arith in
+          let h : 32 * i + 32 ≡ 32 * (i + 1) = omega arith in
+          let B = fits (tree_of k) most in
+          v.all k j ∙ ap (λ y. B && others d (tree_of k) y (32 * i) s) z ∙ ap (λ y. B && left d (tree_of k) (n - (i + 1)) y s) h
 
-        pub next_open : length d < c → SizedStep t d n (step.Told false)
-        next_open g k i =
-            sym (next-left k i ∙ ap (λ b. one k most && b) (not-closed d (tree_of k) w.ready (valid k i) (32 * n) (m - 1) (h + 32) s c (omega (arith, v.heads)) v.start x g) ∙ and-false (one k most))
+      pub next_open : r ≡ None → ElementsStep t d n None
+      next_open e k j =
+          let none = subst (Ended d (tree_of k) (n - (i + 1)) (32 * (i + 1)) s) e (next-ended k j) in
+          next-left k j ∙ ap (λ b. fits (tree_of k) most && b) none ∙ and-false (fits (tree_of k) most)
 
-        module _ (g : c ≤ length d) where
-          pub next-order : s ≤ c
-          next-order = go (m - 1) refl
-            where
-              go : (j : ℕ) → m - 1 ≡ j → s ≤ c
-              go zero f = omega (arith, x.last (omega (arith, v.heads)), v.start)
-              go (suc j) f = ((x.next (omega (arith, v.heads))).some g).0
+      module _ {c : ℕ} (e : r ≡ Some c) where
+        next : (k : FieldKind) → DynamicIs t k → Ended d (tree_of k) (n - (i + 1)) (32 * (i + 1)) s (Some c)
+        next k j = subst (Ended d (tree_of k) (n - (i + 1)) (32 * (i + 1)) s) e (next-ended k j)
 
-          abbrev this : Spot
-          this = record { from = s; to = c }
+        pub next-inside : (s ≤ c) × (c ≤ length d)
+        next-inside = let y = next w.some.0 w.some.1 in (y.0, y.1)
 
-          module _ (r : Two) (y : Sorted most this r) where
-            both-inside : Inside d r.short.from r.short.to × Inside d r.long.from r.long.to
-            both-inside = sorted_all most this r y (λ p. Inside d p.from p.to) v.inside (record { order = next-order; inside = g })
+        module _ {short long : List ℕ} (y : Sorted most (part d s c) short long) where
+          both-ready : Data short × Data long
+          both-ready = sorted_all most (part d s c) short long y Data v.ready (part_data d s c next-inside.0 next-inside.1 w.ready)
 
-            pub short-inside : Inside d r.short.from r.short.to
-            short-inside = both-inside.0
+          pub short_ready : Data short
+          short_ready = both-ready.0
 
-            pub short_data : Data (part d r.short.from r.short.to)
-            short_data = part_data d r.short.from r.short.to short-inside.order short-inside.inside w.ready
+          -- what is told of the shorter part
+          module _ {o : Bool} (z : FitsKind t short o) where
+            split : (k : FieldKind) → DynamicIs t k → whole k ≡ (o && (fits (tree_of k) long && others d (tree_of k) (n - (i + 1)) (32 * (i + 1)) c))
+            split k j =
+                let F = fits (tree_of k) in
+                let R : Bool = others d (tree_of k) (n - (i + 1)) (32 * (i + 1)) c in
+                next-left k j ∙ ap (λ b. F most && b) (next k j).2 ∙ sym (and_assoc (F most) (F (part d s c)) R)
+                ∙ ap (λ b. b && R) (sorted_both most (part d s c) short long y F) ∙ and_assoc (F short) (F long) R ∙ ap (λ b. b && (F long && R)) (sym (z k j))
 
-            pub some-dynamic : SomeDynamic t
-            some-dynamic = (w.some.0, record { is = w.some.1; dynamic = w.dynamic w.some.0 w.some.1 })
+            pub short-bad : o ≡ false → ElementsStep t d n None
+            short-bad f k j = split k j ∙ ap (λ b. b && (fits (tree_of k) long && others d (tree_of k) (n - (i + 1)) (32 * (i + 1)) c)) f
 
-            -- what is told of the shorter part
-            module _ (o : Bool) (z : FitsKind t (part d r.short.from r.short.to) o) where
-              short-is : (k : FieldKind) → KindIs t k → o ≡ one k r.short
-              short-is k i = z k (record { is = i; dynamic = w.dynamic k i }) ∙ sym (slice_fits (tree_of k) (valid k i) d w.ready r.short.from r.short.to short-inside.order short-inside.inside)
+            pub chosen-next : o ≡ true → Chosen (i + 1) c long
+            chosen-next f = record {
+              begun = omega arith;
+              order = omega arith;
+              start = next-inside.1;
+              ready = both-ready.1;
+              all = λ k j. split k j ∙ ap (λ b. b && (fits (tree_of k) long && others d (tree_of k) (n - (i + 1)) (32 * (i + 1)) c)) f;
+            }
 
-              split : (k : FieldKind) → KindIs t k → whole k ≡ (o && (one k r.long && others d (tree_of k) (m - 1) (h + 32) c))
-              split k i =
-                  next-left k i
-                  ∙ ap (λ b. one k most && b) (closed d (tree_of k) w.ready (valid k i) (32 * n) (m - 1) (h + 32) s c (omega (arith, v.heads)) v.start x g)
-                  ∙ sym (and_assoc (one k most) (one k this) (others d (tree_of k) (m - 1) (h + 32) c))
-                  ∙ ap (λ b. b && others d (tree_of k) (m - 1) (h + 32) c) (sorted_both most this r y (one k))
-                  ∙ and_assoc (one k r.short) (one k r.long) (others d (tree_of k) (m - 1) (h + 32) c)
-                  ∙ ap (λ b. b && (one k r.long && others d (tree_of k) (m - 1) (h + 32) c)) (sym (short-is k i))
-
-              pub short-bad : o ≡ false → SizedStep t d n (step.Told false)
-              short-bad f k i = sym (split k i ∙ ap (λ b. b && (one k r.long && others d (tree_of k) (m - 1) (h + 32) c)) f)
-
-              pub chosen-next : o ≡ true → Chosen (m - 1) (h + 32) c r.long
-              chosen-next f = record {
-                heads = omega (arith, v.heads);
-                start = g;
-                inside = both-inside.1;
-                all = λ k i. split k i ∙ ap (λ b. b && (one k r.long && others d (tree_of k) (m - 1) (h + 32) c)) f;
-              }
+pub ruleset choice = (first-bad, first_open, chosen-start, chosen-end, next_open, next-inside, short_ready, short-bad, chosen-next)

@@ -1,301 +1,249 @@
 -- Arrays and what they hold, by the records of a dynamic kind.
 -- Assumes nothing.
 use mathlib.Core.Path.{◌≡◌, refl, sym, ◌∙◌, ap, subst}
-use mathlib.Core.Bool.{Bool, true, false, ◌&&◌, false≢true}
+use mathlib.Core.Bool.{Bool, true, false, not, ◌&&◌, false≢true}
 use mathlib.Core.List.{List, [], ◌∷◌}
-use Prim.Native.Nat.{ℕ, ◌+◌, ◌-◌, ◌/◌, ◌≤◌, ◌<◌}
+use Rattle.std.specs.Prelude.{Option, None, Some}
+use Rattle.std.specs.Borrow.{Bor}
+use Rattle.std.specs.Bool.{then_some}
+use Prim.Native.Nat.{ℕ, ◌-◌, ◌/◌, ◌≤◌, ◌<◌}
 use native.Mathlib.Omega.{arith}
 use lib.Dec.{leb, eqb}
-use lib.ListN.{length, take, drop, length-take, length-drop}
-use lib.Seq.{take-take, take_all, length-take-le}
+use lib.ListN.{length, take, drop}
+use lib.Seq.{length-take-le}
 use borrow.Author.Tests.{le-leb, lt-leb}
 use Rattle.kinds.specs.Kind.{Elementary, int, uint, fixed_bytes, address, bool, function, bytes, string, Suffix, sized, unsized, Kind, is_kind}
-use Rattle.model.specs.Tree.{Base, Fields, arrays, base_kind, kinds_of}
+use Rattle.model.specs.Tree.{Base, arrays, base_kind}
 use Rattle.model.specs.Reading.{FieldKind}
 use Rattle.model.specs.Layout.{le_value}
-use Rattle.model.proofs.Scans.{part-rest}
-use Rattle.record.specs.Encoded.{KindIs, SomeFields, SomeKind}
-use Rattle.record.proofs.Standing.{TupleThere, tuple-there, leaf-there, kind-least}
+use Rattle.record.specs.declared.Piece.{Piece}
+use Rattle.record.specs.Parts.{PieceIs, Headed}
+use Rattle.record.specs.Encoded.{KindIs, SomeFields, SomeKind, SomeSuffixes}
+use Rattle.record.proofs.Standing.{kind-headed, suffixes-headed, kind-parts, no-suffixes}
 use Rattle.encoding.specs.Dynamic.{is_open_ended, is_dynamic}
 use Rattle.encoding.specs.Values.{most_elements}
-use Rattle.encoding.specs.Judge.{be_value, repeated, word_at, has_word, string_at, leaf, end_of, ends_at}
+use Rattle.encoding.specs.Judge.{be_value, word_at, has_word, string_at, leaf, end_of, ends_at}
 use Rattle.encoding.proofs.Runs.{static-array}
-use Rattle.words.specs.Places.{capped, place_or}
-use Rattle.words.proofs.Caps.{cap_cases, cap_exact}
+use Rattle.words.specs.Places.{capped}
 use Rattle.extent.specs.declared.Extent.{Extent}
-use Rattle.extent.specs.Walks.{tree_of, SuffixesAre, SomeSuffixes}
-use Rattle.extent.specs.Extents.{ExtentOf}
-use Rattle.extent.proofs.Steps.{suffix_code, suffix-code, suffix-least, fixed-long, fixed-count, no_suffix, base-inside, base-suffixes}
-use Rattle.static_kinds.specs.Places.{Place, SomeStatic, ManyEnd}
+use Rattle.extent.specs.Walks.{tree_of}
+use Rattle.extent.specs.Extents.{ExtentOf, SuffixIs}
+use Rattle.extent.proofs.Reaches.{counted, fixed-long}
+use Rattle.static_kinds.specs.Places.{SomeStatic, ManyEnd}
 use Rattle.judge.specs.declared.Step.{Step}
 use Rattle.judge.specs.declared.Step.TheVariants as step
-use Rattle.judge.specs.Fits.{fits, part, Data, DynamicIs, SomeDynamic, Alone, FitsKind, FitsFields}
-use Rattle.judge.specs.Steps.{LastAt, ArrayIs, SomeArray, Inside, ArrayStep, SizedStep, Within, behind, Heads}
-use Rattle.judge.proofs.Slices.{part-long, part_data, part-whole, part-part, kind-valid, place-ends, slice_fits}
+use Rattle.judge.specs.Fits.{fits, Data, DynamicIs, SomeDynamic, FitsKind, FitsFields}
+use Rattle.judge.specs.Steps.{LastOf, ArrayIs, SomeArray, Down, Tells, ArrayStep, SizedStep, ElementsStep, Heads}
+use Rattle.judge.proofs.Parts.{part, part_data, kind-valid, part_fits, dynamic-as}
 use Rattle.judge.proofs.Saying.{when-ends}
 use Rattle.judge.proofs.Choosing.{fits-none, fits_over}
-use Rattle.judge.proofs.Lasting.{ArrayHere, array-here, array-inside}
+use Rattle.judge.proofs.Lasting.{ArrayHere, array-here, suffix-is}
+
+-- what is told by a test
+told : (b whole : Bool) (k : Kind) → whole ≡ b → Tells (then_some b step.Done) k whole
+told true whole k e = e
+told false whole k e = e
 
 -- So many elements.
 
 module _ (t d : List ℕ) (n : ℕ) (e : Extent) (x : ExtentOf t e) where
-  module _ (v : e.dynamic ≡ true) where
-    its-dynamic : (k : FieldKind) → KindIs t k → is_dynamic (tree_of k) ≡ true
-    its-dynamic k i = sym (x.all k i).dynamic ∙ v
+  module _ (v : not e.dynamic ≡ false) where
+    its-dynamic : (k : FieldKind) → KindIs t k → DynamicIs t k
+    its-dynamic k i = record { is = i; dynamic = dynamic-as t e x false v k i }
 
-    pub sized-none : n ≡ 0 → SizedStep t d n (step.Told (eqb (length d) 0))
-    sized-none z k i = fits-none d (tree_of k) (its-dynamic k i) n z
+    pub sized-none : n ≡ 0 → (b : Bool) → b ≡ eqb (length d) 0 → SizedStep t d n (then_some b step.Done)
+    sized-none z b f k i = told b _ (tree_of k) (fits-none d (tree_of k) (its-dynamic k i).dynamic n z ∙ sym f)
 
-    pub sized_over : length d / 32 < n → SizedStep t d n (step.Told false)
-    sized_over h k i = fits_over d (tree_of k) (its-dynamic k i) n (omega arith)
+    pub sized_over : length d / 32 < n → SizedStep t d n None
+    sized_over h k i = fits_over d (tree_of k) (its-dynamic k i).dynamic n (omega arith)
 
     pub sized-heads : SomeKind t → Data d → (n ≡ 0 → ⊥) → n ≤ length d / 32 → Heads t d n
-    sized-heads q w z h = record { some = q; dynamic = its-dynamic; ready = w; least = omega arith; room = omega arith }
+    sized-heads q w z h = record { some = (q.0, its-dynamic q.0 q.1); ready = w; least = omega arith; room = omega arith }
 
-  module _ (v : e.dynamic ≡ false) where
+    pub sized-elements : (r : Option Step) → ElementsStep t d n r → SizedStep t d n r
+    sized-elements r y k i = y k (its-dynamic k i)
+
+  module _ (v : not e.dynamic ≡ true) where
     its-static : (k : FieldKind) → KindIs t k → is_dynamic (tree_of k) ≡ false
-    its-static k i = sym (x.all k i).dynamic ∙ v
+    its-static = dynamic-as t e x true v
 
     pub sized-asks : SomeKind t → SomeStatic t
     sized-asks q = (q.0, record { is = q.1; static = its-static q.0 q.1 })
 
-    pub sized-static : (r : ℕ) → ManyEnd t d 0 n r → SizedStep t d n (step.Told (eqb r (length d)))
+    pub sized-static : (r : Option ℕ) → ManyEnd t d 0 n r → (b : Bool) → b ≡ ends_at (length d) r → SizedStep t d n (then_some b step.Done)
     unfolding fits
-    sized-static r y k i =
-        place-ends d (repeated n (λ a. end_of d (tree_of k) a) 0) r (y k (record { is = i; static = its-static k i }))
-        ∙ ap (ends_at (length d)) (sym (static-array d (tree_of k) n (its-static k i) 0 (omega arith)))
+    sized-static r y b f k i =
+        let v = its-static k i in
+        let same = static-array d (tree_of k) n v 0 (omega arith) ∙ sym (y k (record { is = i; static = v })) in
+        told b _ (tree_of k) (ap (ends_at (length d)) same ∙ sym f)
 
-pub whole-place : (d : List ℕ) → Data d → Place d 0
-whole-place d q = record { inside = omega arith; small = q.small }
+pub ruleset sizes = (sized-none, sized_over, sized-heads, sized-elements, sized-asks, sized-static)
 
 -- Arrays.
 
--- an open array is one of so many elements behind the word of the count
-open_fits : (k : Kind) (d : List ℕ) → fits (Kind.array k unsized) d ≡ ((has_word d 0 && leb (be_value (word_at d 0)) most_elements) && ends_at (length d) (end_of d (Kind.array k (sized (be_value (word_at d 0)))) 32))
-unfolding fits end_of
-open_fits k d = when-ends (length d) (has_word d 0 && leb (be_value (word_at d 0)) most_elements) (end_of d (Kind.array k (sized (be_value (word_at d 0)))) 32)
+module _ (d : List ℕ) where
+  count : ℕ
+  count = be_value (word_at d 0)
 
-pub step-within : (d : List ℕ) → Data d → (t : List ℕ) (n : ℕ) (x : Step) → SizedStep t d n x → Within x
-step-within d q t n (step.Told r) h = tt
-step-within d q t n (step.Down from to) h = (omega (arith, h.0.order, h.0.inside, q.small), omega (arith, h.0.inside, q.small))
+  -- an open array is one of so many elements behind the word of the count
+  open_fits : (k : Kind)
+      → fits (Kind.array k unsized) d ≡ ((has_word d 0 && leb count most_elements) && ends_at (length d) (end_of d (Kind.array k (sized count)) 32))
+  unfolding fits end_of count
+  open_fits k = when-ends (length d) (has_word d 0 && leb count most_elements) (end_of d (Kind.array k (sized count)) 32)
 
-module _ (t : List ℕ) (s : ℕ) (q : SomeArray t s) where
-  pub array_long : s + 6 ≤ length t
-  array_long = let (k, o, i) = q in suffix-least t s o [] i.suffix
+module _ (t : List ℕ) (p : Piece) where
+  pub array-asks : SomeArray t p → SomeKind t
+  array-asks q = let (k, o, i) = q in (k, i.element)
 
-  pub array-less : length (take s t) < length t
-  array-less = omega (arith, length-take-le s t (omega (arith, array_long)), array_long)
+  module _ (z : p.kind ≡ 11) where
+    open_is : (o : Suffix) → SuffixIs p o → o ≡ unsized
+    open_is (sized n) i = absurd (omega (arith, i.0, z))
+    open_is unsized i = refl
 
-  pub array-asks : SomeKind (take s t)
-  array-asks = let (k, o, i) = q in (k, i.element)
+    module _ (d : List ℕ) (w : Data d) where
+      open_told : (k : FieldKind) (o : Suffix) → ArrayIs t p k o → (b c : Bool) → has_word d 0 ≡ b → leb (count d) most_elements ≡ c
+          → fits (Kind.array (tree_of k) o) d ≡ ((b && c) && ends_at (length d) (end_of d (Kind.array (tree_of k) (sized (count d))) 32))
+      open_told k o i b c f g = ap (λ y. fits (Kind.array (tree_of k) y) d) (open_is o i.suffix) ∙ open_fits d (tree_of k) ∙ rw (f, g)
 
-  module _ (c : ℕ) (e : c ≡ le_value (take 2 (drop (s + 4) t))) where
-    module _ (z : c ≡ 11) where
-      open_is : (o : Suffix) → SuffixesAre (drop s t) (o ∷ []) → o ≡ unsized
-      unfolding suffix_code
-      open_is (sized n) i = absurd (omega (arith, suffix-code t s (sized n) [] i c e))
-      open_is unsized i = refl
+      pub open_short : false ≡ has_word d 0 → ArrayStep t p d None
+      open_short f k o i = open_told k o i false _ (sym f) refl
 
-      module _ (d : List ℕ) (w : Data d) where
-        open_told : (k : FieldKind) (o : Suffix) → ArrayIs t s k o → fits (Kind.array (tree_of k) o) d ≡ ((has_word d 0 && leb (be_value (word_at d 0)) most_elements) && ends_at (length d) (end_of d (Kind.array (tree_of k) (sized (be_value (word_at d 0)))) 32))
-        open_told k o i = ap (λ y. fits (Kind.array (tree_of k) y) d) (open_is o i.suffix) ∙ open_fits (tree_of k) d
+      module _ (f : true ≡ has_word d 0) (n : ℕ) (g : n ≡ capped (be_value (word_at d 0))) where
+        pub open_many : 65536 < n → ArrayStep t p d None
+        unfolding count
+        open_many h k o i = open_told k o i true false (sym f) (lt-leb (be_value (word_at d 0)) most_elements (omega arith))
 
-        pub open_short : has_word d 0 ≡ false → ArrayStep t s d (step.Told false)
-        open_short f k o i = sym (open_told k o i ∙ ap (λ b. (b && leb (be_value (word_at d 0)) most_elements) && ends_at (length d) (end_of d (Kind.array (tree_of k) (sized (be_value (word_at d 0)))) 32)) f)
+        module _ (h : n ≤ 65536) (r : 32 ≤ length d) where
+          abbrev rest : List ℕ
+          rest = part d 32 (length d)
 
-        module _ (f : has_word d 0 ≡ true) (n : ℕ) (g : (n ≡ capped (be_value (word_at d 0))) × (n ≤ 65537)) where
-          counted : (k : FieldKind) (o : Suffix) → ArrayIs t s k o → (b : Bool) → leb (be_value (word_at d 0)) most_elements ≡ b → fits (Kind.array (tree_of k) o) d ≡ (b && ends_at (length d) (end_of d (Kind.array (tree_of k) (sized (be_value (word_at d 0)))) 32))
-          counted k o i b h = open_told k o i ∙ ap (λ y. (y && leb (be_value (word_at d 0)) most_elements) && ends_at (length d) (end_of d (Kind.array (tree_of k) (sized (be_value (word_at d 0)))) 32)) f ∙ ap (λ y. y && ends_at (length d) (end_of d (Kind.array (tree_of k) (sized (be_value (word_at d 0)))) 32)) h
+          pub rest_data : Data rest
+          rest_data = part_data d 32 (length d) r (omega arith) w
 
-          pub open_many : 65536 < n → ArrayStep t s d (step.Told false)
-          open_many h k o i = sym (counted k o i false (lt-leb (be_value (word_at d 0)) most_elements (cap_cases (be_value (word_at d 0)) (λ l m. omega arith) (λ l m. l))))
+          pub open_rest : (x : Option Step) → SizedStep t rest n x → ArrayStep t p d x
+          unfolding is_kind count
+          open_rest x y k o i =
+              let A : Kind = Kind.array (tree_of k) (sized n) in
+              let m : be_value (word_at d 0) ≡ n = omega (arith, g) in
+              let few = le-leb (be_value (word_at d 0)) most_elements (omega arith) in
+              let same : fits (Kind.array (tree_of k) o) d ≡ fits A rest =
+              open_told k o i true true (sym f) few ∙ ap (λ c. ends_at (length d) (end_of d (Kind.array (tree_of k) (sized c)) 32)) m
+              ∙ part_fits A (kind-valid t k i.element) d w 32 (length d) r (omega arith) in
+              subst (Tells x (tree_of k)) (sym same) (y k i.element)
 
-          module _ (h : n ≤ 65536) (r : 32 ≤ length d) where
-            abbrev rest : List ℕ
-            rest = part d 32 (length d)
+  module _ (z : p.kind ≡ 11 → ⊥) where
+    pub fixed-room : SomeArray t p → 8 ≤ length p.body.now
+    fixed-room q = let (k, o, i) = q in fixed-long p (o, i.suffix) z
 
-            pub rest_data : Data rest
-            rest_data = part_data d 32 (length d) r (omega arith) w
+    pub fixed-step : (d : List ℕ) (v : ℕ) → v ≡ le_value (take 8 (drop 0 p.body.now)) → (x : Option Step) → SizedStep t d v x → ArrayStep t p d x
+    fixed-step d v e x y k o i = subst (λ s. Tells x (tree_of k) (fits (Kind.array (tree_of k) s) d)) (is o i.suffix) (y k i.element)
+      where
+        is : (o : Suffix) → SuffixIs p o → sized v ≡ o
+        is (sized n) j = ap sized (e ∙ (counted p.body.now n j.1 j.2).1)
+        is unsized j = absurd (z j)
 
-            rest-told : (k : FieldKind) (o : Suffix) → ArrayIs t s k o → fits (Kind.array (tree_of k) o) d ≡ fits (Kind.array (tree_of k) (sized n)) rest
-            unfolding is_kind
-            rest-told k o i =
-                let m : be_value (word_at d 0) ≡ n = cap_exact (be_value (word_at d 0)) n (sym g.0) h in
-                counted k o i true (le-leb (be_value (word_at d 0)) most_elements (omega arith))
-                ∙ ap (λ y. ends_at (length d) (end_of d (Kind.array (tree_of k) (sized y)) 32)) m
-                ∙ slice_fits (Kind.array (tree_of k) (sized n)) (kind-valid (take s t) k i.element) d w 32 (length d) r (omega arith)
-
-            pub open_rest : (x : Step) → SizedStep (take s t) rest n x → ArrayStep t s d (behind x)
-            open_rest (step.Told b) y = λ k o i. y k i.element ∙ sym (rest-told k o i)
-            open_rest (step.Down from to) y =
-                let l : length rest ≡ length d - 32 = part-long d 32 (length d) r (omega arith) in
-                let a : 32 + from ≡ from + 32 = omega arith in
-                let b : 32 + to ≡ to + 32 = omega arith in
-                let same : part rest from to ≡ part d (from + 32) (to + 32) = rw (a, b) at (part-part d 32 (length d) from to r (omega arith) y.0.order y.0.inside) in (
-                  record { order = omega (arith, y.0.order); inside = omega (arith, y.0.inside) },
-                  λ k o i. let v = y.1 k i.element in record { dynamic = v.dynamic; same = rest-told k o i ∙ v.same ∙ ap (fits (tree_of k)) same },
-                )
-
-            pub open_behind : (x r : Step) → SizedStep (take s t) rest n x → r ≡ behind x → ArrayStep t s d r
-            open_behind x r y f = subst (ArrayStep t s d) (sym f) (open_rest x y)
-
-    module _ (z : c ≡ 11 → ⊥) where
-      fixed-is : (o : Suffix) → SuffixesAre (drop s t) (o ∷ []) → (n : ℕ) × (o ≡ sized n)
-      unfolding suffix_code
-      fixed-is (sized n) i = (n, refl)
-      fixed-is unsized i = absurd (z (suffix-code t s unsized [] i c e))
-
-      pub fixed-room : s + 14 ≤ length t
-      fixed-room = let (k, o, i) = q in let (n, f) = fixed-is o i.suffix in fixed-long t s n [] (rw f at i.suffix)
-
-      module _ (d : List ℕ) (v : ℕ) (f : v ≡ le_value (take 8 (drop (s + 6) t))) where
-        fixed_same : (o : Suffix) → SuffixesAre (drop s t) (o ∷ []) → o ≡ sized v
-        fixed_same o j = let (n, g) = fixed-is o j in g ∙ ap sized (sym (fixed-count t s n [] (rw g at j) v f))
-
-        pub fixed-step : (x : Step) → SizedStep (take s t) d v x → ArrayStep t s d x
-        fixed-step (step.Told b) y = λ k o i. y k i.element ∙ ap (λ u. fits (Kind.array (tree_of k) u) d) (sym (fixed_same o i.suffix))
-        fixed-step (step.Down from to) y =
-            (y.0, λ k o i. let u = y.1 k i.element in record { dynamic = u.dynamic; same = ap (λ w. fits (Kind.array (tree_of k) w) d) (fixed_same o i.suffix) ∙ u.same })
-
--- what is told, by the case
-pub as_told : (t : List ℕ) (s : ℕ) (d : List ℕ) (x : Step) → ArrayStep t s d x → (b : Bool) → x ≡ step.Told b → ArrayStep t s d (step.Told b)
-as_told t s d x y b e = subst (ArrayStep t s d) e y
-
-pub as_down : (t : List ℕ) (s : ℕ) (d : List ℕ) (x : Step) → ArrayStep t s d x → (from to : ℕ) → x ≡ step.Down from to → ArrayStep t s d (step.Down from to)
-as_down t s d x y from to e = subst (ArrayStep t s d) e y
+pub ruleset places = (array-asks, open_short, open_many, rest_data, open_rest, fixed-room, fixed-step)
 
 -- A base without suffixes.
 
-module _ (t d : List ℕ) (h : Alone t) where
-  bare-kind : (k : FieldKind) → KindIs t k → tree_of k ≡ base_kind k.base
+module _ {t : List ℕ} {p : Piece} (j : PieceIs t (Some p)) (h : length p.rest.now ≡ 0) (d : List ℕ) where
+  bare-kind : (k : FieldKind) (b : Base) → KindIs t k → k.base ≡ b → tree_of k ≡ base_kind b
   unfolding arrays
-  bare-kind k i =
-      let E : List ℕ = take (length t - length t) (drop (length t) t) in
-      let none : k.suffixes ≡ [] = no_suffix E 0 k.suffixes (base-suffixes t k i (length t) (sym h)) (omega (arith, length-take (length t - length t) (drop (length t) t))) in
-      ap (arrays (base_kind k.base)) none
+  bare-kind k b i e = ap (arrays (base_kind k.base)) (no-suffixes p.rest.now k.suffixes (kind-parts t p k i j).suffixes h) ∙ ap base_kind e
 
-  module _ (q : SomeDynamic t) where
-    pub flat_long : 6 ≤ length t
-    flat_long = kind-least t q.0 q.1.is
+  module _ (z : p.kind ≡ 9) where
+    pub flat_asks : SomeDynamic t → SomeFields p.body.now
+    flat_asks q = let x = (kind-parts t p q.0 q.1.is j).nested z in (x.fields, x.is)
 
-    module _ (c : ℕ) (e : c ≡ le_value (take 2 (drop 4 t))) where
-      module _ (z : c ≡ 9) where
-        abbrev body : List ℕ
-        body = take (length t - 6) (drop 6 t)
+    pub flat_tuple : (r : Bool) → FitsFields p.body.now d r → FitsKind t d r
+    unfolding base_kind
+    flat_tuple r y k i =
+        let x = (kind-parts t p k i.is j).nested z in
+        y x.fields x.is ∙ ap (λ u. fits u d) (sym (bare-kind k (Base.tuple x.fields) i.is x.split))
 
-        its-tuple : (k : FieldKind) → KindIs t k → TupleThere t k (length t)
-        its-tuple k i = tuple-there t k i c e z (length t) (sym h)
+  -- a dynamic elementary kind is a string
+  string_end : (x : Elementary) → is_dynamic (Kind.elementary x) ≡ true → end_of d (Kind.elementary x) 0 ≡ string_at d 0
+  unfolding is_dynamic is_open_ended end_of leaf
+  string_end (int w) v = absurd (false≢true v)
+  string_end (uint w) v = absurd (false≢true v)
+  string_end (fixed_bytes m) v = absurd (false≢true v)
+  string_end address v = absurd (false≢true v)
+  string_end bool v = absurd (false≢true v)
+  string_end function v = absurd (false≢true v)
+  string_end bytes v = refl
+  string_end string v = refl
 
-        pub flat_asks : SomeFields body
-        flat_asks = let x = its-tuple q.0 q.1.is in (x.fields, x.is)
+  pub flat_string : (p.kind ≡ 9 → ⊥) → (r : Option ℕ) → r ≡ string_at d 0 → (b : Bool) → b ≡ ends_at (length d) r → FitsKind t d b
+  unfolding fits base_kind
+  flat_string z r g b f k i =
+      let x = (kind-parts t p k i.is j).leaf z in
+      let e : tree_of k ≡ Kind.elementary x.leaf = bare-kind k (Base.elementary x.leaf) i.is x.split in
+      f ∙ ap (ends_at (length d)) (g ∙ sym (ap (λ u. end_of d u 0) e ∙ string_end x.leaf (rw e at i.dynamic)))
 
-        tuple-kind : (b : Base) (fs : Fields) → b ≡ Base.tuple fs → base_kind b ≡ Kind.tuple (kinds_of fs)
-        unfolding base_kind
-        tuple-kind b fs g = ap base_kind g
+-- The loop: a kind, and a part of the data.
 
-        pub flat_tuple : (r : Bool) → FitsFields body d r → FitsKind t d r
-        flat_tuple r y k i =
-            let x = its-tuple k i.is in
-            y x.fields x.is ∙ ap (λ j. fits j d) (sym (bare-kind k i.is ∙ tuple-kind k.base x.fields x.split))
+pub record Deep (t d kind part : List ℕ) : Type 0 where
+  pub bound : length kind ≤ length t
+  pub ready : Data part
+  pub ask : SomeDynamic kind
+  all : (k : FieldKind) → DynamicIs t k → (j : FieldKind) × DynamicIs kind j × (fits (tree_of k) d ≡ fits (tree_of j) part)
 
-      leaf-kind : (b : Base) (x : Elementary) → b ≡ Base.elementary x → base_kind b ≡ Kind.elementary x
-      unfolding base_kind
-      leaf-kind b x g = ap base_kind g
+pub deep-start : (t d : List ℕ) → SomeDynamic t → Data d → Deep t d t d
+deep-start t d q w = record { bound = omega arith; ready = w; ask = q; all = λ k i. (k, i, refl) }
 
-      -- a dynamic elementary kind is a string
-      string_end : (x : Elementary) → is_dynamic (Kind.elementary x) ≡ true → end_of d (Kind.elementary x) 0 ≡ string_at d 0
-      unfolding is_dynamic is_open_ended end_of leaf
-      string_end (int w) v = absurd (false≢true v)
-      string_end (uint w) v = absurd (false≢true v)
-      string_end (fixed_bytes m) v = absurd (false≢true v)
-      string_end address v = absurd (false≢true v)
-      string_end bool v = absurd (false≢true v)
-      string_end function v = absurd (false≢true v)
-      string_end bytes v = refl
-      string_end string v = refl
+module _ {t d kind part : List ℕ} (w : Deep t d kind part) where
+  pub deep-headed : Headed kind
+  deep-headed = kind-headed kind (w.ask.0, w.ask.1.is)
 
-      pub flat_string : (c ≡ 9 → ⊥) → (r : ℕ) → r ≡ place_or d (string_at d 0) → FitsKind t d (eqb r (length d))
-      unfolding fits
-      flat_string z r y k i =
-          let (x, g) = leaf-there t k i.is c e z in
-          let j : tree_of k ≡ Kind.elementary x = bare-kind k i.is ∙ leaf-kind k.base x g in
-          place-ends d (string_at d 0) r y ∙ ap (ends_at (length d)) (sym (ap (λ u. end_of d u 0) j ∙ string_end x (rw j at i.dynamic)))
+  pub deep_flat : {r : Bool} → FitsKind kind part r → FitsKind t d r
+  deep_flat y k i = let (j, x, e) = w.all k i in y j x ∙ sym e
 
--- The loop: the first bytes of the records, and a part of the data.
+  module _ {p : Piece} (j : PieceIs kind (Some p)) where
+    pub deep-suffixes : SomeSuffixes p.rest.now
+    deep-suffixes = (w.ask.0.suffixes, (kind-parts kind p w.ask.0 w.ask.1.is j).suffixes)
 
-pub record Deep (t d : List ℕ) (end f g : ℕ) : Type 0 where
-  pub bound : end ≤ length t
-  pub inside : Inside d f g
-  pub ready : Data d
-  pub ask : SomeDynamic (take end t)
-  all : (k : FieldKind) → DynamicIs t k → (j : FieldKind) × DynamicIs (take end t) j × (fits (tree_of k) d ≡ fits (tree_of j) (part d f g))
+    module _ {l : List ℕ} (v : LastOf p.rest.now l) where
+      abbrev element : List ℕ
+      element = take (length kind - length l) kind
 
-pub deep-start : (t d : List ℕ) → SomeDynamic t → Data d → Deep t d (length t) 0 (length d)
-deep-start t d q w =
-    let z : take (length t) t ≡ t = take_all (length t) t (omega arith) in
-    record {
-      bound = omega arith;
-      inside = record { order = omega arith; inside = omega arith };
-      ready = w;
-      ask = rw z q;
-      all = λ k i. (k, rw z i, ap (fits (tree_of k)) (sym (part-whole d)));
-    }
+      here : (k : FieldKind) → KindIs kind k → ArrayHere kind l k
+      here k i = array-here kind l p k i j v
 
-module _ (t d : List ℕ) (end f g : ℕ) (w : Deep t d end f g) where
-  abbrev u : List ℕ
-  u = take end t
+      pub deep-less : (length l ≤ length kind) × (length element < length kind)
+      deep-less = let x = (here w.ask.0 w.ask.1.is).long in (omega arith, omega (arith, length-take-le (length kind - length l) kind (omega arith), v.some))
 
-  pub deep-length : length u ≡ end
-  deep-length = length-take-le end t w.bound
+      pub deep-last : Headed l
+      deep-last = let x = here w.ask.0 w.ask.1.is in suffixes-headed l (x.last ∷ [], x.suffix) v.some
 
-  pub deep_data : Data (part d f g)
-  deep_data = part_data d f g w.inside.order w.inside.inside w.ready
+      module _ {s : Piece} (g : PieceIs l (Some s)) where
+        is : (k : FieldKind) (i : KindIs kind k) → ArrayIs element s (here k i).kind (here k i).last
+        is k i = record { element = (here k i).element; suffix = suffix-is l s (here k i).last (here k i).suffix v.some g }
 
-  pub deep_long : 6 ≤ length u
-  deep_long = kind-least u w.ask.0 w.ask.1.is
+        pub deep-asks : SomeArray element s
+        deep-asks = let (k, q) = w.ask in ((here k q.is).kind, (here k q.is).last, is k q.is)
 
-  module _ (n : ℕ) (e : n ≡ le_value (take 4 (drop 0 u))) where
-    pub deep-base : (6 ≤ n) × (n ≤ length u)
-    deep-base = base-inside u w.ask.0 w.ask.1.is n e
+        module _ (r : Option Step) (y : ArrayStep element s part r) where
+          step-told : (k : FieldKind) (i : DynamicIs t k) → (h : FieldKind) × KindIs element h × Tells r (tree_of h) (fits (tree_of k) d)
+          step-told k i =
+              let (h, x, z) = w.all k i in
+              let a = here h x.is in
+              (a.kind, a.element, subst (Tells r (tree_of a.kind)) (ap (λ o. fits o part) (sym a.tree) ∙ sym z) (y a.kind a.last (is h x.is)))
 
-    pub deep-suffixes : (n ≡ length u → ⊥) → SomeSuffixes (take (length u - n) (drop n u)) × (0 < length (take (length u - n) (drop n u)))
-    deep-suffixes z = ((w.ask.0.suffixes, base-suffixes u w.ask.0 w.ask.1.is n e), rw part-rest (rw length-drop (some_left deep-base.1 z)))
-      where
-        some_left : {m : ℕ} → n ≤ m → (n ≡ m → ⊥) → 0 < m - n
-        some_left h y = omega arith
+          pub deep_bad : r ≡ None → FitsKind t d false
+          deep_bad e k i = let (h, x, z) = step-told k i in sym (subst (λ o. Tells o (tree_of h) (fits (tree_of k) d)) e z)
 
-  pub deep_flat : (r : Bool) → FitsKind u (part d f g) r → FitsKind t d r
-  deep_flat r y k i = let (j, x, e) = w.all k i in y j x ∙ sym e
+          pub deep_good : r ≡ Some step.Done → FitsKind t d true
+          deep_good e k i = let (h, x, z) = step-told k i in sym (subst (λ o. Tells o (tree_of h) (fits (tree_of k) d)) e z)
 
-  module _ (n r : ℕ) (e : n ≡ le_value (take 4 (drop 0 u))) (v : LastAt (take (length u - n) (drop n u)) r) where
-    here : (k : FieldKind) → KindIs u k → ArrayHere u n r e v k
-    here k i = array-here u n r e v k i
+          pub deep-next : (down : Bor (List ℕ)) → r ≡ Some (step.Down down) → (q : SomeDynamic t) → Deep t d element down.now
+          deep-next down e q =
+              let told : (k : FieldKind) (i : DynamicIs t k) → (h : FieldKind) × KindIs element h × Down (tree_of h) (fits (tree_of k) d) down.now
+              = λ k i. let (h, x, z) = step-told k i in (h, x, subst (λ o. Tells o (tree_of h) (fits (tree_of k) d)) e z) in
+              record {
+                bound = omega (arith, w.bound, deep-less);
+                ready = (told q.0 q.1).2.ready;
+                ask = let (h, x, z) = told q.0 q.1 in (h, record { is = x; dynamic = z.dynamic });
+                all = λ k i. let (h, x, z) = told k i in (h, record { is = x; dynamic = z.dynamic }, z.same);
+              }
 
-    pub deep-inside : (6 ≤ n) × (n + r < length u)
-    deep-inside = array-inside u n r e v w.ask.0 w.ask.1.is
-
-    pub deep-asks : SomeArray u (n + r)
-    deep-asks = let x = here w.ask.0 w.ask.1.is in (x.kind, x.last, x.is)
-
-    pub deep-told : (b : Bool) → ArrayStep u (n + r) (part d f g) (step.Told b) → FitsKind t d b
-    deep-told b y k i =
-        let (j, x, z) = w.all k i in
-        let a = here j x.is in
-        y a.kind a.last a.is ∙ ap (λ o. fits o (part d f g)) (sym a.tree) ∙ sym z
-
-    pub deep-next : (from to : ℕ) → ArrayStep u (n + r) (part d f g) (step.Down from to) → Deep t d (n + r) (f + from) (f + to)
-    deep-next from to y =
-        let l : length (part d f g) ≡ g - f = part-long d f g w.inside.order w.inside.inside in
-        let same : part (part d f g) from to ≡ part d (f + from) (f + to) = part-part d f g from to w.inside.order w.inside.inside y.0.order y.0.inside in
-        let shorter : take (n + r) u ≡ take (n + r) t = take-take (n + r) end t (omega (arith, deep-inside, deep-length)) in
-        record {
-          bound = omega (arith, deep-inside, deep-length, w.bound);
-          inside = record { order = omega (arith, y.0.order); inside = omega (arith, y.0.inside, w.inside.inside, w.inside.order) };
-          ready = w.ready;
-          ask = let a = here w.ask.0 w.ask.1.is in (a.kind, record { is = rw shorter at a.is.element; dynamic = (y.1 a.kind a.last a.is).dynamic });
-          all = λ k i.
-              let (j, x, z) = w.all k i in
-              let a = here j x.is in
-              let b = y.1 a.kind a.last a.is in
-              (a.kind, record { is = rw shorter at a.is.element; dynamic = b.dynamic }, z ∙ ap (λ o. fits o (part d f g)) a.tree ∙ b.same ∙ ap (fits (tree_of a.kind)) same);
-        }
+pub ruleset values = (deep-start, deep-headed, deep-less, deep_bad)

@@ -1,273 +1,253 @@
--- The members of a tuple, one by one: heads, and tails that end where the next head says.
+-- Tuples, one member after the other.
 -- Assumes nothing.
 use mathlib.Core.Path.{◌≡◌, refl, sym, ◌∙◌, ap, subst}
-use mathlib.Core.Bool.{Bool, true, false, ◌&&◌, and-eq-true_iff}
+use mathlib.Core.Bool.{Bool, true, false, not, ◌&&◌, and-eq-true_iff}
 use mathlib.Core.List.{List, [], ◌∷◌}
 use Rattle.std.specs.Prelude.{Option, None, Some}
+use Rattle.std.specs.Borrow.{Bor}
+use Rattle.std.proofs.Common.{Fits, w8}
 use Rattle.std.proofs.lemmas.Option.{same_Some}
-use Prim.Native.Nat.{ℕ, ◌+◌, ◌-◌, ◌≤◌, ◌<◌}
+use Prim.Native.Nat.{ℕ, suc, ◌+◌, ◌≤◌, ◌<◌}
 use native.Mathlib.Omega.{arith}
 use lib.Dec.{leb, eqb}
-use lib.ListN.{length, take, drop}
-use borrow.Author.Tests.{leb-true, le-leb, lt-leb, eq-eqb}
-use Rattle.kinds.specs.Bytes.{same}
-use Rattle.kinds.specs.Kind.{Kind, Kinds, no_kind, more_kinds}
+use lib.ListN.{length, drop, get_or}
+use borrow.Author.Tests.{leb-true, le-leb, lt-leb, lt-ltb, eq-eqb}
+use Rattle.kinds.specs.Bytes.{all, same}
+use Rattle.kinds.specs.Kind.{Kind, Kinds}
+use Rattle.kinds.proofs.Logic.{both}
 use Rattle.model.specs.Tree.{Fields, kinds_of}
 use Rattle.model.specs.Reading.{FieldKind}
-use Rattle.record.specs.declared.Spot.{Spot}
-use Rattle.record.specs.Encoded.{kind_in, FieldsAre, KindIs, SomeFields}
-use Rattle.record.proofs.Standing.{kind-least}
+use Rattle.record.specs.declared.Piece.{Piece}
+use Rattle.record.specs.Parts.{PieceIs, Headed}
+use Rattle.record.specs.Encoded.{FieldsAre, KindIs, SomeFields}
+use Rattle.record.proofs.Standing.{fields-headed}
 use Rattle.encoding.specs.Dynamic.{is_dynamic, heads_length}
-use Rattle.encoding.specs.Words.{word}
-use Rattle.encoding.specs.Judge.{given, when, Slot, slot, word_at, has_word, follow, group, end_of, slots, ends_at, is_encoding}
+use Rattle.encoding.specs.Words.{is_byte, word}
+use Rattle.encoding.specs.Judge.{given, repeated, Slot, slot, word_at, has_word, follow, group, end_of, slots, ends_at, is_encoding}
 use Rattle.encoding.proofs.Runs.{static-end}
-use Rattle.words.specs.Places.{place_or}
-use Rattle.words.proofs.Caps.{cap_cases, cap_exact}
 use Rattle.extent.specs.declared.Extent.{Extent}
-use Rattle.extent.specs.Walks.{tree_of, FieldsAhead, KindAt}
+use Rattle.extent.specs.Walks.{tree_of}
 use Rattle.extent.specs.Extents.{ExtentOf, ExtentsOf}
-use Rattle.extent.proofs.Steps.{none_left}
-use Rattle.extent.proofs.Reaches.{more-fields, no_fields}
+use Rattle.extent.proofs.Reaches.{some, none, no_fields, Ahead, ahead-named, ahead, ahead-less}
 use Rattle.static_kinds.specs.Places.{Place, SomeStatic, ManyEnd}
-use Rattle.static_kinds.proofs.Running.{place_none, place-some, once_is}
 use Rattle.judge.specs.declared.Open.{Open}
-use Rattle.judge.specs.declared.Next.{Next}
-use Rattle.judge.specs.declared.Next.TheVariants as next
-use Rattle.judge.specs.Fits.{fits, part, Data, SomeDynamic, FitsKind, FitsFields, Encoded}
-use Rattle.judge.specs.Steps.{Inside, HeadSays, EndSays, OpenIs, nothing, member, ended, OpenAt, Closes, tuple_left, MemberStep, MemberAt}
-use Rattle.judge.proofs.Slices.{part_data, kind-valid, end-inside, slice_fits}
-use Rattle.judge.proofs.Saying.{goes_on, stops, given-same, when-ends}
+use Rattle.judge.specs.Fits.{fits, Data, SomeDynamic, FitsKind, FitsFields, Encoded}
+use Rattle.judge.specs.Steps.{HeadSays, OpenIs, open_length, ended, OpenAt, Closes, tuple_left, member_slot, MemberStep, MemberAt}
+use Rattle.judge.proofs.Parts.{part, part_data, kind-valid, end-inside, part_fits, dynamic-as}
+use Rattle.judge.proofs.Saying.{judged, goes_on, given-same, when-ends}
 
 -- A member that is open.
 
-no_kind_lem : (b : List ℕ) (s : Spot) (k : FieldKind) → s.from ≡ s.to → KindIs (part b s.from s.to) k → ⊥
-no_kind_lem b s k e i = let z : s.to - s.from ≡ 0 = omega arith in omega (arith, kind-least (part b s.from s.to) k i, ap (λ n. length (take n (drop s.from b))) z)
-
 -- where it ends is inside
-ended-inside : (b d : List ℕ) (s : Spot) (m : Option Kind) → OpenIs b s m → Data d → (t e : ℕ) → t ≤ length d → ended d m t ≡ Some e → (t ≤ e) × (e ≤ length d)
-ended-inside b d s None x q t e h f = let z : t ≡ e = same_Some t e f in omega arith
-ended-inside b d s (Some j) (member k i) q t e h f = end-inside (tree_of k) (kind-valid _ k i.is) d q t e h f
+ended-inside : (d : List ℕ) (t : Option (Bor (List ℕ))) (m : Option Kind) → OpenIs t m → Data d → (at e : ℕ) → at ≤ length d → ended d m at ≡ Some e
+    → (at ≤ e) × (e ≤ length d)
+ended-inside d None m x q at e h f = let z : at ≡ e = same_Some at e (rw x at f) in omega arith
+ended-inside d (Some t) m (k, i, x) q at e h f = end-inside (tree_of k) (kind-valid _ k i.is) d q at e h (rw x at f)
 
-module _ (b d : List ℕ) (o : Open) (end : ℕ) (a : OpenAt b d o) (q : Data d) (l : Inside d o.tail end) where
-  pub closes-none : o.kind.from ≡ o.kind.to → Closes b d o end (eqb o.tail end)
-  closes-none e None x = refl
-  closes-none e (Some j) (member k i) = absurd (no_kind_lem b o.kind k e i.is)
+module _ (d : List ℕ) (o : Open) (end : ℕ) (a : OpenAt d o) (q : Data d) (h : o.tail ≤ end) (l : end ≤ length d) where
+  pub closes-none : o.kind ≡ None → Closes d o end (eqb o.tail end)
+  closes-none e m x = let z : m ≡ None = subst (λ t. OpenIs t m) e x in rw z
 
-  module _ (z : o.kind.from ≡ o.kind.to → ⊥) where
-    pub closes-asks : SomeDynamic (part b o.kind.from o.kind.to)
-    closes-asks = go a.some.0 a.some.1
-      where
-        go : (m : Option Kind) → OpenIs b o.kind m → SomeDynamic (part b o.kind.from o.kind.to)
-        go None (nothing e) = absurd (z e)
-        go (Some j) (member k i) = (k, i)
+  module _ (t : Bor (List ℕ)) (e : o.kind ≡ Some t) where
+    begun : (m : Option Kind) → OpenIs o.kind m → OpenIs (Some t) m
+    begun m x = subst (λ t. OpenIs t m) e x
+
+    pub closes-asks : SomeDynamic t.now
+    closes-asks = let (m, x) = a.some in let (k, i, z) = begun m x in (k, i)
 
     pub closes_data : Data (part d o.tail end)
-    closes_data = part_data d o.tail end l.order l.inside q
+    closes_data = part_data d o.tail end h l q
 
-    pub closes-member : (r : Bool) → FitsKind (part b o.kind.from o.kind.to) (part d o.tail end) r → Closes b d o end r
-    closes-member r y None (nothing e) = absurd (z e)
-    closes-member r y (Some j) (member k i) = y k i ∙ sym (slice_fits (tree_of k) (kind-valid _ k i.is) d q o.tail end l.order l.inside)
+    pub closes-member : (r : Bool) → FitsKind t.now (part d o.tail end) r → Closes d o end r
+    closes-member r y m x =
+        let (k, i, z) = begun m x in
+        y k i ∙ sym (part_fits (tree_of k) (kind-valid _ k i.is) d q o.tail end h l) ∙ ap (λ m. ends_at end (ended d m o.tail)) (sym z)
+
+pub ruleset closing = (closes-none, closes-asks, closes_data, closes-member)
 
 -- One member more.
 
-module _ (b : List ℕ) (s : Spot) (d : List ℕ) (o : Open) (w : MemberAt b s d o) where
-  abbrev t : List ℕ
-  t = part b s.from s.to
-
-  abbrev L : ℕ
-  L = length d
-
-  tail-inside : (m : Option Kind) → OpenIs b o.kind m → (e : ℕ) → ended d m o.tail ≡ Some e → (o.tail ≤ e) × (e ≤ L)
-  tail-inside m x e f = ended-inside b d o.kind m x w.ready o.tail e w.before.tail f
-
+module _ (t : Bor (List ℕ)) (d : List ℕ) (o : Open) (w : MemberAt t.now d o) (e : Extent) (x : ExtentOf t.now e) where
   -- a dynamic one
-  module _ (v : (k : FieldKind) → KindIs t k → is_dynamic (tree_of k) ≡ true) (c : ℕ) (x : EndSays d o.tail o.head (L + 1) c) where
-    says : HeadSays d o.tail o.head c
-    says = x.next (omega (arith, w.before.head))
+  module _ (v : not e.dynamic ≡ false) where
+    goes : FieldKind → List Slot → ℕ → Option ℕ
+    goes k ss c = given (end_of d (tree_of k) c) (λ a. follow d ss 0 (o.head + 32) a)
 
-    tested : (y : ℕ) → (has_word d o.head && same (word_at d o.head) (word (y - 0))) ≡ (has_word d o.head && same (word_at d o.head) (word y))
-    tested y = let z : y - 0 ≡ y = omega arith in rw z
-
-    goes : (k : FieldKind) (ss : List Slot) → ℕ → Option ℕ
-    goes k ss e = given (end_of d (tree_of k) e) (λ a. follow d ss 0 (o.head + 32) a)
-
-    opened : (k : FieldKind) → KindIs t k → (m : Option Kind) (ss : List Slot)
-        → tuple_left d m o (slot (is_dynamic (tree_of k)) (λ a. end_of d (tree_of k) a) ∷ ss) ≡ ends_at L (given (ended d m o.tail) (λ e. when (has_word d o.head && same (word_at d o.head) (word (e - 0))) (goes k ss e)))
+    opened : (r : Option ℕ) → HeadSays d o.tail o.head r → (k : FieldKind) (m : Option Kind) → KindIs t.now k → OpenIs o.kind m → (ss : List Slot)
+        → tuple_left d m o (member_slot d k ∷ ss) ≡ judged r (ended d m o.tail) (λ c. ends_at (length d) (goes k ss c))
     unfolding follow goes
-    opened k i m ss = ap (λ y. tuple_left d m o (slot y (λ a. end_of d (tree_of k) a) ∷ ss)) (v k i)
+    opened r y k m i z ss =
+        ap (λ b. tuple_left d m o (slot b (λ a. end_of d (tree_of k) a) ∷ ss)) (dynamic-as t.now e x false v k i)
+        ∙ goes_on d o.tail o.head (goes k ss) r (ended d m o.tail) y (λ c f. ended-inside d o.kind m z w.ready o.tail c w.before.tail f)
 
-    pub member_open : L < c → MemberStep b s d o next.Stop
-    member_open h k m i y ss =
-        opened k i m ss
-        ∙ stops L (λ e. has_word d o.head && same (word_at d o.head) (word (e - 0))) (goes k ss) (ended d m o.tail) (λ e f. let n = tail-inside m y e f in tested e ∙ says.none h e n.0 n.1)
+    pub member_open : HeadSays d o.tail o.head None → MemberStep t.now d o None
+    member_open y k m i z ss = opened None y k m i z ss
 
-    module _ (h : c ≤ L) where
-      pub member-inside : Inside d o.tail c
-      member-inside = record { order = (says.some h).0; inside = h }
+    module _ (c : ℕ) (y : HeadSays d o.tail o.head (Some c)) (r : Bool) (g : Closes d o c r) where
+      closed : (k : FieldKind) (m : Option Kind) → KindIs t.now k → OpenIs o.kind m → (ss : List Slot)
+          → tuple_left d m o (member_slot d k ∷ ss) ≡ (r && ends_at (length d) (goes k ss c))
+      closed k m i z ss = opened (Some c) y k m i z ss ∙ ap (λ b. b && ends_at (length d) (goes k ss c)) (sym (g m z))
 
-      closed : (k : FieldKind) → KindIs t k → (m : Option Kind) → OpenIs b o.kind m → (ss : List Slot)
-          → tuple_left d m o (slot (is_dynamic (tree_of k)) (λ a. end_of d (tree_of k) a) ∷ ss) ≡ (ends_at c (ended d m o.tail) && ends_at L (goes k ss c))
-      closed k i m y ss =
-          opened k i m ss
-          ∙ goes_on L (λ e. has_word d o.head && same (word_at d o.head) (word (e - 0))) (goes k ss) (ended d m o.tail) c (λ e f. tested e ∙ (says.some h).1 e (tail-inside m y e f).1)
+      pub member-bad : r ≡ false → MemberStep t.now d o None
+      member-bad f k m i z ss = closed k m i z ss ∙ ap (λ b. b && ends_at (length d) (goes k ss c)) f
 
-      module _ (r : Bool) (z : Closes b d o c r) where
-        pub member-bad : r ≡ false → MemberStep b s d o next.Stop
-        member-bad f k m i y ss = closed k i m y ss ∙ ap (λ u. u && ends_at L (goes k ss c)) (sym (z m y) ∙ f)
+      head-here : o.head + 32 ≤ length d
+      head-here = leb-true (o.head + 32) (length d) ((and-eq-true_iff (has_word d o.head) (same (word_at d o.head) (word c))).0 (y.2 c y.1 ∙ eq-eqb c c refl)).0
 
-        head-here : o.head + 32 ≤ L
-        head-here = leb-true (o.head + 32) L ((and-eq-true_iff (has_word d o.head) (same (word_at d o.head) (word c))).0 ((says.some h).1 c h ∙ eq-eqb c c refl)).0
-
-        pub member-next : r ≡ true → MemberStep b s d o (next.Go (record { head = o.head + 32; tail = c; kind = s }))
-        unfolding goes
-        member-next f = (
-          record { some = (Some (tree_of w.some.0), member w.some.0 (record { is = w.some.1; dynamic = v w.some.0 w.some.1 })); kind = w.kind; head = head-here; tail = h },
-          λ k m i y. record {
-            begun = Some (tree_of k);
-            is = member k (record { is = i; dynamic = v k i });
-            same = λ ss. closed k i m y ss ∙ ap (λ u. u && ends_at L (goes k ss c)) (sym (z m y) ∙ f);
-          },
-        )
+      pub member-next : r ≡ true → MemberStep t.now d o (Some (record { head = o.head + 32; tail = c; kind = Some t }))
+      unfolding goes
+      member-next f =
+          let is : (k : FieldKind) → KindIs t.now k → OpenIs (Some t) (Some (tree_of k))
+          = λ k i. (k, record { is = i; dynamic = dynamic-as t.now e x false v k i }, refl) in
+          record {
+            place = record { some = (Some (tree_of w.some.0), is w.some.0 w.some.1); head = head-here; tail = y.1 };
+            small = λ n a b. a;
+            all = λ k m i z.
+                record { begun = Some (tree_of k); is = is k i; same = λ ss. closed k m i z ss ∙ ap (λ b. b && ends_at (length d) (goes k ss c)) f };
+          }
 
   -- a static one
-  module _ (v : (k : FieldKind) → KindIs t k → is_dynamic (tree_of k) ≡ false) where
-    pub static-asks : SomeStatic t
-    static-asks = (w.some.0, record { is = w.some.1; static = v w.some.0 w.some.1 })
+  module _ (v : not e.dynamic ≡ true) where
+    static : (k : FieldKind) → KindIs t.now k → is_dynamic (tree_of k) ≡ false
+    static = dynamic-as t.now e x true v
 
-    pub static-place : Place d o.head
-    static-place = record { inside = w.before.head; small = w.ready.small }
+    pub static-asks : SomeStatic t.now × Place d o.head
+    static-asks = ((w.some.0, record { is = w.some.1; static = static w.some.0 w.some.1 }), record { inside = w.before.head; small = w.ready.small })
 
-    module _ (q : ℕ) (x : ManyEnd t d o.head 1 q) where
-      answer : (k : FieldKind) → KindIs t k → q ≡ place_or d (end_of d (tree_of k) o.head)
-      answer k i = x k (record { is = i; static = v k i }) ∙ ap (place_or d) (once_is (λ a. end_of d (tree_of k) a) o.head)
+    module _ (r : Option ℕ) (y : ManyEnd t.now d o.head 1 r) where
+      answer : (k : FieldKind) → KindIs t.now k → end_of d (tree_of k) o.head ≡ r
+      unfolding repeated
+      answer k i = sym (y k (record { is = i; static = static k i }) ∙ given-same (end_of d (tree_of k) o.head))
 
-      within : (k : FieldKind) → KindIs t k → (e : ℕ) → end_of d (tree_of k) o.head ≡ Some e → e ≤ L
-      within k i e f = (static-end d (tree_of k) (v k i) o.head e f).1
+      stands : Option Kind → List Slot → Option ℕ → Bool
+      stands m ss u = ends_at (length d) (given (ended d m o.tail) (λ a. given u (λ h. follow d ss 0 h a)))
 
-      stood : (k : FieldKind) → KindIs t k → (m : Option Kind) (ss : List Slot) → tuple_left d m o (slot (is_dynamic (tree_of k)) (λ a. end_of d (tree_of k) a) ∷ ss) ≡ ends_at L (given (ended d m o.tail) (λ e. given (end_of d (tree_of k) o.head) (λ h. follow d ss 0 h e)))
-      unfolding follow
-      stood k i m ss = ap (λ y. tuple_left d m o (slot y (λ a. end_of d (tree_of k) a) ∷ ss)) (v k i)
+      stood : (u : Option ℕ) → r ≡ u → (k : FieldKind) (m : Option Kind) → KindIs t.now k → (ss : List Slot)
+          → tuple_left d m o (member_slot d k ∷ ss) ≡ stands m ss u
+      unfolding follow stands
+      stood u f k m i ss = ap (λ b. tuple_left d m o (slot b (λ a. end_of d (tree_of k) a) ∷ ss)) (static k i) ∙ ap (stands m ss) (answer k i ∙ f)
 
-      nowhere : (y : Option ℕ) → ends_at L (given y (λ e. None)) ≡ false
+      nowhere : (u : Option ℕ) → ends_at (length d) (given u (λ a. None)) ≡ false
       nowhere None = refl
-      nowhere (Some e) = refl
+      nowhere (Some a) = refl
 
-      pub static-bad : L < q → MemberStep b s d o next.Stop
-      static-bad h k m i y ss =
-          let f : end_of d (tree_of k) o.head ≡ None = place_none d (end_of d (tree_of k) o.head) (within k i) q (answer k i) h in
-          stood k i m ss ∙ ap (λ u. ends_at L (given (ended d m o.tail) (λ e. given u (λ a. follow d ss 0 a e)))) f ∙ nowhere (ended d m o.tail)
+      pub static-bad : r ≡ None → MemberStep t.now d o None
+      unfolding stands
+      static-bad f k m i z ss = stood None f k m i ss ∙ nowhere (ended d m o.tail)
 
-      pub static-next : q ≤ L → MemberStep b s d o (next.Go (record { head = q; tail = o.tail; kind = o.kind }))
-      static-next h = (
-        record { some = w.before.some; kind = w.before.kind; head = h; tail = w.before.tail },
-        λ k m i y. record {
-          begun = m;
-          is = y;
-          same = λ ss. stood k i m ss ∙ ap (λ u. ends_at L (given (ended d m o.tail) (λ e. given u (λ a. follow d ss 0 a e)))) (place-some d (end_of d (tree_of k) o.head) (within k i) q (answer k i) h);
-        },
-      )
+      pub static-next : (c : ℕ) → r ≡ Some c → MemberStep t.now d o (Some (record { head = c; tail = o.tail; kind = o.kind }))
+      unfolding stands
+      static-next c f =
+          let (k, i) = w.some in
+          record {
+            place = record { some = w.before.some; head = (static-end d (tree_of k) (static k i) o.head c (answer k i ∙ f)).1; tail = w.before.tail };
+            small = λ n a b. b;
+            all = λ k m i z. record { begun = m; is = z; same = λ ss. stood (Some c) f k m i ss };
+          }
 
--- by the case
-pub as_go : (b : List ℕ) (s : Spot) (d : List ℕ) (o : Open) (x : Next) → MemberStep b s d o x → (p : Open) → x ≡ next.Go p → MemberStep b s d o (next.Go p)
-as_go b s d o x y p e = subst (MemberStep b s d o) e y
-
-pub as_stop : (b : List ℕ) (s : Spot) (d : List ℕ) (o : Open) (x : Next) → MemberStep b s d o x → x ≡ next.Stop → MemberStep b s d o next.Stop
-as_stop b s d o x y e = subst (MemberStep b s d o) e y
-
--- by what is told of its kind
-module _ (t : List ℕ) (e : Extent) (x : ExtentOf t e) where
-  pub all-dynamic : e.dynamic ≡ true → (k : FieldKind) → KindIs t k → is_dynamic (tree_of k) ≡ true
-  all-dynamic v k i = sym (x.all k i).dynamic ∙ v
-
-  pub all-static : e.dynamic ≡ false → (k : FieldKind) → KindIs t k → is_dynamic (tree_of k) ≡ false
-  all-static v k i = sym (x.all k i).dynamic ∙ v
+pub ruleset joins = (member_open, member-bad, member-next, static-asks, static-bad, static-next)
 
 -- All members.
 
-tuple-fits : (ks : Kinds) (d : List ℕ) → fits (Kind.tuple ks) d ≡ (leb (0 + heads_length ks) (length d) && ends_at (length d) (follow d (slots d ks) 0 0 (0 + heads_length ks)))
-unfolding fits end_of group
+-- their heads take n bytes
+heads-fit : Kinds → List ℕ → ℕ → Bool
+heads-fit ks d n = leb n (length d) && ends_at (length d) (follow d (slots d ks) 0 0 n)
+
+tuple-fits : (ks : Kinds) (d : List ℕ) → fits (Kind.tuple ks) d ≡ heads-fit ks d (0 + heads_length ks)
+unfolding fits end_of group heads-fit
 tuple-fits ks d = when-ends (length d) (leb (0 + heads_length ks) (length d)) (follow d (slots d ks) 0 0 (0 + heads_length ks))
+
+-- the members behind a place of the records b are still to be judged
+pub record Judging (b d rest : List ℕ) (o : Open) : Type 0 where
+  pub bound : length rest ≤ length b
+  pub small : open_length o.kind ≤ length b
+  pub ready : Data d
+  pub place : OpenAt d o
+  pub ask : SomeFields rest
+  all : (fs : Fields) → FieldsAre b fs
+      → (gs : Fields) × (m : Option Kind) × FieldsAre rest gs × OpenIs o.kind m × (fits (Kind.tuple (kinds_of fs)) d ≡ tuple_left d m o (slots d (kinds_of gs)))
 
 module _ (b d : List ℕ) (e : Extent) (x : ExtentsOf b e) (q : Data d) where
   pub tuple-short : length d < e.head → FitsFields b d false
+  unfolding heads-fit
   tuple-short h fs i =
-      let l : length d < 0 + heads_length (kinds_of fs) = cap_cases (heads_length (kinds_of fs)) (λ m n. omega (arith, (x.all fs i).head)) (λ m n. omega (arith, q.small)) in
-      sym (tuple-fits (kinds_of fs) d ∙ ap (λ t. t && ends_at (length d) (follow d (slots d (kinds_of fs)) 0 0 (0 + heads_length (kinds_of fs)))) (lt-leb (0 + heads_length (kinds_of fs)) (length d) l))
+      let n = 0 + heads_length (kinds_of fs) in
+      let over = lt-leb n (length d) (omega (arith, (x.all fs i).head)) in
+      sym (tuple-fits (kinds_of fs) d ∙ ap (λ t. t && ends_at (length d) (follow d (slots d (kinds_of fs)) 0 0 n)) over)
 
-pub record Judging (b d : List ℕ) (i : ℕ) (o : Open) : Type 0 where
-  pub inside : i ≤ length b
-  pub ready : Data d
-  pub place : OpenAt b d o
-  pub ask : SomeFields (drop i b)
-  all : (fs : Fields) → FieldsAre b fs → (gs : Fields) × (m : Option Kind) × FieldsAre (drop i b) gs × OpenIs b o.kind m × (fits (Kind.tuple (kinds_of fs)) d ≡ tuple_left d m o (slots d (kinds_of gs)))
+  pub judge_start : SomeFields b → e.head ≤ length d → Judging b d b (record { head = 0; tail = e.head; kind = None })
+  unfolding heads-fit
+  judge_start s h = record {
+    bound = omega arith;
+    small = omega arith;
+    ready = q;
+    place = record { some = (None, refl); head = omega arith; tail = h };
+    ask = s;
+    all = λ fs i.
+        let z : 0 + heads_length (kinds_of fs) ≡ e.head = omega (arith, (x.all fs i).head, q.small) in
+        let room = le-leb e.head (length d) h in
+        let F : Bool → Bool = λ t. t && ends_at (length d) (follow d (slots d (kinds_of fs)) 0 0 e.head) in
+        (fs, None, i, refl, tuple-fits (kinds_of fs) d ∙ ap (heads-fit (kinds_of fs) d) z ∙ ap F room);
+  }
 
-pub judge_start : (b d : List ℕ) (e : Extent) → ExtentsOf b e → SomeFields b → Data d → e.head ≤ length d → Judging b d 0 (record { head = 0; tail = e.head; kind = record { from = 0; to = 0 } })
-judge_start b d e x s q h = record {
-  inside = omega arith;
-  ready = q;
-  place = record { some = (None, nothing refl); kind = record { order = omega arith; inside = omega arith }; head = omega arith; tail = h };
-  ask = s;
-  all = λ fs i.
-      let m : heads_length (kinds_of fs) ≡ e.head = cap_exact (heads_length (kinds_of fs)) e.head (sym (x.all fs i).head) (omega (arith, q.small)) in
-      let z : 0 + heads_length (kinds_of fs) ≡ e.head = omega arith in (
-        fs,
-        None,
-        i,
-        nothing refl,
-        tuple-fits (kinds_of fs) d ∙ ap (λ n. leb n (length d) && ends_at (length d) (follow d (slots d (kinds_of fs)) 0 0 n)) z ∙ ap (λ t. t && ends_at (length d) (follow d (slots d (kinds_of fs)) 0 0 e.head)) (le-leb e.head (length d) h),
-      );
-}
-
-no_slots : (d : List ℕ) (ks : Kinds) → ks ≡ no_kind → slots d ks ≡ []
-unfolding slots
-no_slots d ks e = ap (slots d) e
-
-more-slots : (d : List ℕ) (ks : Kinds) (k : Kind) (js : Kinds) → ks ≡ more_kinds k js → slots d ks ≡ slot (is_dynamic k) (λ a. end_of d k a) ∷ slots d js
-unfolding slots
-more-slots d ks k js e = ap (slots d) e
-
-module _ (b d : List ℕ) (i : ℕ) (o : Open) (w : Judging b d i o) where
-  pub judge_end : length b ≤ i → (r : Bool) → Closes b d o (length d) r → FitsFields b d r
-  unfolding follow
+module _ {b d rest : List ℕ} {o : Open} (w : Judging b d rest o) where
+  pub judge_end : true ≡ eqb (length rest) 0 → (r : Bool) → Closes d o (length d) r → FitsFields b d r
+  unfolding follow slots
   judge_end h r y fs a =
       let (gs, m, j, u, f) = w.all fs a in
-      let none-there : slots d (kinds_of gs) ≡ [] = no_slots d (kinds_of gs) (no_fields gs (none_left b i gs j h)) in
-      y m u ∙ sym (f ∙ ap (tuple_left d m o) none-there ∙ ap (ends_at (length d)) (given-same (ended d m o.tail)))
+      y m u ∙ sym (f ∙ ap (λ ks. tuple_left d m o (slots d ks)) (no_fields rest gs j (none rest h)) ∙ ap (ends_at (length d)) (given-same (ended d m o.tail)))
 
-  pub judge_all : Inside d o.tail (length d)
-  judge_all = record { order = w.place.tail; inside = omega arith }
+  module _ (h : false ≡ eqb (length rest) 0) where
+    pub judge-headed : Headed rest
+    judge-headed = fields-headed rest w.ask (some rest h)
 
-  module _ (h : i < length b) where
-    pub judge_ahead : FieldsAhead b i
-    judge_ahead = (h, w.ask)
+    module _ {p : Piece} (j : PieceIs rest (Some p)) where
+      pub judge-named : (2 ≤ length p.body.now) × Headed (drop 2 p.body.now)
+      judge-named = ahead-named rest (some rest h) p j w.ask
 
-    module _ (s : Spot) (k : KindAt b i s) where
-      pub judge_asks : MemberAt b s d o
-      judge_asks = let z = k.all w.ask.0 w.ask.1 in record { some = (kind_in z.field, z.is); kind = record { order = omega (arith, k.least); inside = k.inside }; ready = w.ready; before = w.place }
+      module _ {n : Piece} (g : PieceIs (drop 2 p.body.now) (Some n)) where
+        first : (gs : Fields) → FieldsAre rest gs → Ahead p n gs
+        first = ahead rest (some rest h) p j n g
 
-      pub judge_stop : MemberStep b s d o next.Stop → FitsFields b d false
-      judge_stop y fs a =
-          let (gs, m, j, u, f) = w.all fs a in
-          let z = k.all gs j in
-          let e = more-slots d (kinds_of gs) (tree_of (kind_in z.field)) (kinds_of z.fields) (more-fields gs z.field z.fields z.split) in
-          sym (f ∙ ap (tuple_left d m o) e ∙ y (kind_in z.field) m z.is u (slots d (kinds_of z.fields)))
+        pub judge_asks : MemberAt n.rest.now d o
+        judge_asks = let x = first w.ask.0 w.ask.1 in record { some = (x.kind, x.is); ready = w.ready; before = w.place }
 
-      pub judge_next : (p : Open) → MemberStep b s d o (next.Go p) → Judging b d s.to p
-      judge_next p y = record {
-        inside = k.inside;
-        ready = w.ready;
-        place = y.0;
-        ask = let z = k.all w.ask.0 w.ask.1 in (z.fields, z.rest);
-        all = λ fs a.
-            let (gs, m, j, u, f) = w.all fs a in
-            let z = k.all gs j in
-            let e = more-slots d (kinds_of gs) (tree_of (kind_in z.field)) (kinds_of z.fields) (more-fields gs z.field z.fields z.split) in
-            let v = y.1 (kind_in z.field) m z.is u in
-            (z.fields, v.begun, z.rest, v.is, f ∙ ap (tuple_left d m o) e ∙ v.same (slots d (kinds_of z.fields)));
-      }
+        here : (fs : Fields) → FieldsAre b fs → (gs : Fields) × (m : Option Kind) × (i : FieldsAre rest gs) × OpenIs o.kind m
+            × (fits (Kind.tuple (kinds_of fs)) d ≡ tuple_left d m o (member_slot d (first gs i).kind ∷ slots d (kinds_of (first gs i).fields)))
+        unfolding slots
+        here fs a = let (gs, m, i, u, f) = w.all fs a in (gs, m, i, u, f ∙ ap (λ ks. tuple_left d m o (slots d ks)) (first gs i).kinds)
+
+        pub judge_stop : MemberStep n.rest.now d o None → FitsFields b d false
+        judge_stop y fs a = let (gs, m, i, u, f) = here fs a in let x = first gs i in sym (f ∙ y x.kind m x.is u (slots d (kinds_of x.fields)))
+
+        pub judge_next : {q : Open} → MemberStep n.rest.now d o (Some q) → Judging b d p.rest.now q
+        judge_next y = record {
+          bound = omega (arith, j.covers, w.bound);
+          small = y.small (length b) (omega (arith, ahead-less rest (some rest h) p j n g, w.bound)) w.small;
+          ready = w.ready;
+          place = y.place;
+          ask = let x = first w.ask.0 w.ask.1 in (x.fields, x.rest);
+          all = λ fs a.
+              let (gs, m, i, u, f) = here fs a in
+              let x = first gs i in
+              let v = y.all x.kind m x.is u in
+              (x.fields, v.begun, x.rest, v.is, f ∙ v.same (slots d (kinds_of x.fields)));
+        }
+
+pub ruleset tuples = (tuple-short, judge_start, judge_end, judge-headed, judge-named, judge_asks, judge_stop, judge_next)
 
 -- The values of a call.
+
+-- a slice is of bytes
+all-bytes : (s : List ℕ) → ((i : ℕ) → Fits w8 (get_or s i 0)) → all is_byte s ≡ true
+all-bytes [] f = refl
+all-bytes (c ∷ s) f = let byte = f 0 in both (lt-ltb c 256 (omega arith)) (all-bytes s (λ i. f (suc i)))
+
+pub call-data : {d : List ℕ} → ((i : ℕ) → Fits w8 (get_or d i 0)) → length d ≤ 65536 → Data d
+call-data {d} f h = record { small = h; bytes = all-bytes d f }
 
 pub all_encoded : (b d : List ℕ) (r : Bool) → FitsFields b d r → Encoded b d r
 unfolding fits is_encoding
 all_encoded b d r y fs i = y fs i
+
+pub ruleset call = (call-data, all_encoded)

@@ -1,6 +1,6 @@
-pub mod Slices
+pub mod Parts
 pub mod Saying
-pub mod Choosing
 pub mod Lasting
+pub mod Choosing
 pub mod Diving
 pub mod Joining

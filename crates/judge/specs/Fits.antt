@@ -1,10 +1,9 @@
 -- Data that are one value, by the records of its kind.
 -- Assumes nothing.
-use Rattle.std.specs.Prelude.{◌≡◌, Bool, true, List, ℕ, ◌-◌, ◌≤◌, length, take, drop}
+use Rattle.std.specs.Prelude.{◌≡◌, Bool, true, List, ℕ, ◌≤◌, length}
 use Rattle.kinds.specs.Bytes.{all}
 use Rattle.kinds.specs.Kind.{Kind}
 use Rattle.model.specs.Tree.{Fields, kinds_of}
-use Rattle.model.specs.Layout.{le_value}
 use Rattle.model.specs.Reading.{FieldKind}
 use Rattle.record.specs.Encoded.{FieldsAre, KindIs}
 use Rattle.encoding.specs.Dynamic.{is_dynamic}
@@ -15,10 +14,6 @@ use Rattle.extent.specs.Walks.{tree_of}
 -- the data are a value of the kind, and nothing stands behind it
 unfoldable pub fits : Kind → List ℕ → Bool
 fits k d = ends_at (length d) (end_of d k 0)
-
--- the data from a place up to another
-abbrev pub part : List ℕ → ℕ → ℕ → List ℕ
-part d from to = take (to - from) (drop from d)
 
 -- bytes within the limit
 pub record Data (d : List ℕ) : Type 0 where
@@ -32,10 +27,6 @@ pub record DynamicIs (t : List ℕ) (k : FieldKind) : Type 0 where
 
 abbrev pub SomeDynamic : List ℕ → Type 0
 SomeDynamic t = (k : FieldKind) × DynamicIs t k
-
--- a base without suffixes: one record
-abbrev pub Alone : List ℕ → Type 0
-Alone t = le_value (take 4 t) ≡ length t
 
 -- whether the data are a value of the kind, a tuple of the fields' kinds, and the values of a call
 abbrev pub FitsKind : List ℕ → List ℕ → Bool → Type 0

@@ -1,136 +1,131 @@
 -- What the steps into a dynamic kind ask and tell.
 -- Assumes nothing.
-use Rattle.std.specs.Prelude.{◌≡◌, ◌⊎◌, Bool, true, false, ◌&&◌, List, [], ◌∷◌, ◌++◌, ℕ, ◌+◌, ◌*◌, ◌≤◌, ◌<◌, eqb, length, take, drop, Option, None, Some}
+use Rattle.std.specs.Prelude.{◌≡◌, ◌⊎◌, Bool, true, false, ◌&&◌, List, [], ◌∷◌, ◌++◌, ℕ, ◌*◌, ◌≤◌, ◌<◌, eqb, length, Option, None, Some}
+use Rattle.std.specs.Borrow.{Bor}
 use Rattle.kinds.specs.Bytes.{same}
 use Rattle.kinds.specs.Kind.{Suffix, sized, Kind}
 use Rattle.model.specs.Reading.{FieldKind}
-use Rattle.record.specs.declared.Spot.{Spot}
-use Rattle.record.specs.Encoded.{KindIs, SomeKind}
+use Rattle.record.specs.declared.Piece.{Piece}
+use Rattle.record.specs.Encoded.{KindIs, SomeKind, SuffixesAre}
 use Rattle.encoding.specs.Dynamic.{is_dynamic}
 use Rattle.encoding.specs.Words.{word}
 use Rattle.encoding.specs.Judge.{given, Slot, slot, word_at, has_word, follow, end_of, ends_at}
-use Rattle.extent.specs.Walks.{tree_of, SuffixesAre}
+use Rattle.extent.specs.Walks.{tree_of}
+use Rattle.extent.specs.Extents.{SuffixIs}
 use Rattle.judge.specs.declared.Step.{Step}
 use Rattle.judge.specs.declared.Step.TheVariants as step
-use Rattle.judge.specs.declared.Two.{Two}
 use Rattle.judge.specs.declared.Open.{Open}
-use Rattle.judge.specs.declared.Next.{Next}
-use Rattle.judge.specs.declared.Next.TheVariants as next
-use Rattle.judge.specs.Fits.{fits, part, Data, DynamicIs}
+use Rattle.judge.specs.Fits.{fits, Data, DynamicIs, SomeDynamic}
 
 -- Arrays.
 
--- the last of suffixes stands at a place
-pub record LastIs (b : List ℕ) (at : ℕ) (ss : List Suffix) : Type 0 where
+-- l is the record of the last of suffixes
+pub record LastIs (l : List ℕ) (ss : List Suffix) : Type 0 where
   pub front : List Suffix
   pub last : Suffix
   pub split : ss ≡ front ++ (last ∷ [])
-  pub before : SuffixesAre (take at b) front
-  pub here : SuffixesAre (drop at b) (last ∷ [])
+  pub here : SuffixesAre l (last ∷ [])
 
-pub record LastAt (b : List ℕ) (at : ℕ) : Type 0 where
-  pub inside : at < length b
-  pub all : (ss : List Suffix) → SuffixesAre b ss → LastIs b at ss
+pub record LastOf (b l : List ℕ) : Type 0 where
+  pub some : 0 < length l
+  pub all : (ss : List Suffix) → SuffixesAre b ss → LastIs l ss
 
--- records t of an array of the kind k, whose last suffix stands at s
-pub record ArrayIs (t : List ℕ) (s : ℕ) (k : FieldKind) (o : Suffix) : Type 0 where
-  pub element : KindIs (take s t) k
-  pub suffix : SuffixesAre (drop s t) (o ∷ [])
+-- records of an array: t of the kind of its elements, and p of its last suffix
+pub record ArrayIs (t : List ℕ) (p : Piece) (k : FieldKind) (o : Suffix) : Type 0 where
+  pub element : KindIs t k
+  pub suffix : SuffixIs p o
 
-abbrev pub SomeArray : List ℕ → ℕ → Type 0
-SomeArray t s = (k : FieldKind) × (o : Suffix) × ArrayIs t s k o
+abbrev pub SomeArray : List ℕ → Piece → Type 0
+SomeArray t p = (k : FieldKind) × (o : Suffix) × ArrayIs t p k o
 
--- whether the data are such an array is told, or told by one of its elements: a part of the data
-pub record Down (d : List ℕ) (from to : ℕ) (k : Kind) (whole : Bool) : Type 0 where
+-- whether the data are an array of the kind k is told, or told by one of its elements: a part of the data
+pub record Down (k : Kind) (whole : Bool) (part : List ℕ) : Type 0 where
+  pub ready : Data part
   pub dynamic : is_dynamic k ≡ true
-  pub same : whole ≡ fits k (part d from to)
+  pub same : whole ≡ fits k part
 
-pub record Inside (d : List ℕ) (from to : ℕ) : Type 0 where
-  pub order : from ≤ to
-  pub inside : to ≤ length d
+abbrev pub Tells : Option Step → Kind → Bool → Type 0
+Tells None k whole = whole ≡ false
+Tells (Some step.Done) k whole = whole ≡ true
+Tells (Some (step.Down part)) k whole = Down k whole part.now
 
-abbrev pub ArrayStep : List ℕ → ℕ → List ℕ → Step → Type 0
-ArrayStep t s d (step.Told r) = (k : FieldKind) (o : Suffix) → ArrayIs t s k o → r ≡ fits (Kind.array (tree_of k) o) d
-ArrayStep t s d (step.Down from to) = Inside d from to × ((k : FieldKind) (o : Suffix) → ArrayIs t s k o → Down d from to (tree_of k) (fits (Kind.array (tree_of k) o) d))
+abbrev pub ArrayStep : List ℕ → Piece → List ℕ → Option Step → Type 0
+ArrayStep t p d r = (k : FieldKind) (o : Suffix) → ArrayIs t p k o → Tells r (tree_of k) (fits (Kind.array (tree_of k) o) d)
 
 -- the same of so many elements of a kind
-abbrev pub SizedStep : List ℕ → List ℕ → ℕ → Step → Type 0
-SizedStep t d n (step.Told r) = (k : FieldKind) → KindIs t k → r ≡ fits (Kind.array (tree_of k) (sized n)) d
-SizedStep t d n (step.Down from to) = Inside d from to × ((k : FieldKind) → KindIs t k → Down d from to (tree_of k) (fits (Kind.array (tree_of k) (sized n)) d))
+abbrev pub SizedStep : List ℕ → List ℕ → ℕ → Option Step → Type 0
+SizedStep t d n r = (k : FieldKind) → KindIs t k → Tells r (tree_of k) (fits (Kind.array (tree_of k) (sized n)) d)
 
--- behind a word; what is within the limit goes on to be a place
-abbrev pub Within : Step → Type 0
-Within (step.Told r) = Unit {0}
-Within (step.Down from to) = (from ≤ 65536) × (to ≤ 65536)
-
-abbrev pub behind : Step → Step
-behind (step.Told r) = step.Told r
-behind (step.Down from to) = step.Down (from + 32) (to + 32)
-
--- elements of a dynamic kind whose heads are inside
+-- and of elements of a dynamic kind whose heads are inside
 pub record Heads (t d : List ℕ) (n : ℕ) : Type 0 where
-  pub some : SomeKind t
-  pub dynamic : (k : FieldKind) → KindIs t k → is_dynamic (tree_of k) ≡ true
+  pub some : SomeDynamic t
   pub ready : Data d
   pub least : 1 ≤ n
   pub room : 32 * n ≤ length d
 
--- what the head at h says of where something ends that begins at s: r, or behind the data if it is none of the places that it may be
-pub record HeadSays (d : List ℕ) (s h r : ℕ) : Type 0 where
-  pub some : r ≤ length d → (s ≤ r) × ((e : ℕ) → e ≤ length d → (has_word d h && same (word_at d h) (word e)) ≡ eqb e r)
-  pub none : length d < r → (e : ℕ) → s ≤ e → e ≤ length d → (has_word d h && same (word_at d h) (word e)) ≡ false
+abbrev pub ElementsStep : List ℕ → List ℕ → ℕ → Option Step → Type 0
+ElementsStep t d n r = (k : FieldKind) → DynamicIs t k → Tells r (tree_of k) (fits (Kind.array (tree_of k) (sized n)) d)
 
-pub record EndSays (d : List ℕ) (s h seam r : ℕ) : Type 0 where
+-- what the head at h says of where something ends that begins at s, if that is a place where it may end
+abbrev pub HeadSays : List ℕ → ℕ → ℕ → Option ℕ → Type 0
+HeadSays d s h None = (e : ℕ) → s ≤ e → e ≤ length d → (has_word d h && same (word_at d h) (word e)) ≡ false
+HeadSays d s h (Some r) = (s ≤ r) × (r ≤ length d) × ((e : ℕ) → e ≤ length d → (has_word d h && same (word_at d h) (word e)) ≡ eqb e r)
+
+pub record EndSays (d : List ℕ) (s h seam : ℕ) (r : Option ℕ) : Type 0 where
   pub next : h < seam → HeadSays d s h r
-  pub last : seam ≤ h → r ≡ length d
+  pub last : seam ≤ h → r ≡ Some (length d)
 
 -- one of two parts first
-abbrev pub Sorted : Spot → Spot → Two → Type 0
-Sorted a b r = (r ≡ record { short = a; long = b }) ⊎ (r ≡ record { short = b; long = a })
+abbrev pub Sorted : List ℕ → List ℕ → List ℕ → List ℕ → Type 0
+Sorted a b short long = ((short ≡ a) × (long ≡ b)) ⊎ ((short ≡ b) × (long ≡ a))
 
 -- Tuples.
 
--- a member whose tail has begun, by where its kind stands in the records b of the fields; none where that is empty
-pub data OpenIs (b : List ℕ) (s : Spot) : Option Kind → Type 0 where
-  nothing : s.from ≡ s.to → OpenIs b s None
-  member : (k : FieldKind) → DynamicIs (part b s.from s.to) k → OpenIs b s (Some (tree_of k))
+-- a member whose tail has begun, by the records of its kind, if there is one; and how long they are
+abbrev pub OpenIs : Option (Bor (List ℕ)) → Option Kind → Type 0
+OpenIs None m = m ≡ None
+OpenIs (Some t) m = (k : FieldKind) × DynamicIs t.now k × (m ≡ Some (tree_of k))
 
-abbrev pub SomeOpen : List ℕ → Spot → Type 0
-SomeOpen b s = (m : Option Kind) × OpenIs b s m
+abbrev pub open_length : Option (Bor (List ℕ)) → ℕ
+open_length None = 0
+open_length (Some t) = length t.now
 
 -- where it ends, if its tail began at a place
 abbrev pub ended : List ℕ → Option Kind → ℕ → Option ℕ
 ended d None at = Some at
 ended d (Some k) at = end_of d k at
 
-pub record OpenAt (b d : List ℕ) (o : Open) : Type 0 where
-  pub some : SomeOpen b o.kind
-  pub kind : Inside b o.kind.from o.kind.to
+pub record OpenAt (d : List ℕ) (o : Open) : Type 0 where
+  pub some : (m : Option Kind) × OpenIs o.kind m
   pub head : o.head ≤ length d
   pub tail : o.tail ≤ length d
 
-abbrev pub Closes : List ℕ → List ℕ → Open → ℕ → Bool → Type 0
-Closes b d o end r = (m : Option Kind) → OpenIs b o.kind m → r ≡ ends_at end (ended d m o.tail)
+abbrev pub Closes : List ℕ → Open → ℕ → Bool → Type 0
+Closes d o end r = (m : Option Kind) → OpenIs o.kind m → r ≡ ends_at end (ended d m o.tail)
 
 -- whether the data are a tuple, when the open member and the members behind it are still to be judged
 abbrev pub tuple_left : List ℕ → Option Kind → Open → List Slot → Bool
 tuple_left d m o ss = ends_at (length d) (given (ended d m o.tail) (λ e. follow d ss 0 o.head e))
 
--- a member more is judged
-pub record Went (b d : List ℕ) (s : Slot) (m : Option Kind) (o p : Open) : Type 0 where
+abbrev pub member_slot : List ℕ → FieldKind → Slot
+member_slot d k = slot (is_dynamic (tree_of k)) (λ a. end_of d (tree_of k) a)
+
+-- a member more is judged, of the kind that t says
+pub record Went (d : List ℕ) (k : FieldKind) (m : Option Kind) (o p : Open) : Type 0 where
   pub begun : Option Kind
-  pub is : OpenIs b p.kind begun
-  pub same : (ss : List Slot) → tuple_left d m o (s ∷ ss) ≡ tuple_left d begun p ss
+  pub is : OpenIs p.kind begun
+  pub same : (ss : List Slot) → tuple_left d m o (member_slot d k ∷ ss) ≡ tuple_left d begun p ss
 
-abbrev pub MemberStep : List ℕ → Spot → List ℕ → Open → Next → Type 0
-MemberStep b s d o (next.Go p) =
-    OpenAt b d p
-    × ((k : FieldKind) (m : Option Kind) → KindIs (part b s.from s.to) k → OpenIs b o.kind m → Went b d (slot (is_dynamic (tree_of k)) (λ a. end_of d (tree_of k) a)) m o p)
-MemberStep b s d o next.Stop =
-    (k : FieldKind) (m : Option Kind) → KindIs (part b s.from s.to) k → OpenIs b o.kind m → (ss : List Slot) → tuple_left d m o (slot (is_dynamic (tree_of k)) (λ a. end_of d (tree_of k) a) ∷ ss) ≡ false
+pub record Goes (t d : List ℕ) (o p : Open) : Type 0 where
+  pub place : OpenAt d p
+  pub small : (n : ℕ) → length t ≤ n → open_length o.kind ≤ n → open_length p.kind ≤ n
+  pub all : (k : FieldKind) (m : Option Kind) → KindIs t k → OpenIs o.kind m → Went d k m o p
 
-pub record MemberAt (b : List ℕ) (s : Spot) (d : List ℕ) (o : Open) : Type 0 where
-  pub some : SomeKind (part b s.from s.to)
-  pub kind : Inside b s.from s.to
+abbrev pub MemberStep : List ℕ → List ℕ → Open → Option Open → Type 0
+MemberStep t d o None = (k : FieldKind) (m : Option Kind) → KindIs t k → OpenIs o.kind m → (ss : List Slot) → tuple_left d m o (member_slot d k ∷ ss) ≡ false
+MemberStep t d o (Some p) = Goes t d o p
+
+pub record MemberAt (t d : List ℕ) (o : Open) : Type 0 where
+  pub some : SomeKind t
   pub ready : Data d
-  pub before : OpenAt b d o
+  pub before : OpenAt d o

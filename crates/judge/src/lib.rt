@@ -3,22 +3,13 @@
 #![tactic(auto)]
 
 ghost use Rattle.std.specs.Prelude.{◌≡◌, ◌≤◌, ◌<◌, length};
-ghost use Rattle.record.specs.Encoded.{SomeFields, SomeKind};
-ghost use Rattle.extent.specs.Walks.{SomeSuffixes};
-ghost use Rattle.judge.specs.Fits.{Data, SomeDynamic, Alone, FitsKind, FitsFields, Encoded};
-ghost use Rattle.judge.specs.Steps.{LastAt, SomeArray, Inside, ArrayStep, SizedStep, Within, behind, Heads, EndSays, Sorted, OpenAt, Closes, MemberStep, MemberAt};
+ghost use Rattle.encoding.specs.Judge.{ends_at};
+ghost use Rattle.record.specs.Encoded.{SomeFields, SomeKind, SomeSuffixes};
+ghost use Rattle.judge.specs.Fits.{Data, SomeDynamic, FitsKind, FitsFields, Encoded};
+ghost use Rattle.judge.specs.Steps.{LastOf, SomeArray, ArrayStep, SizedStep, Heads, ElementsStep, HeadSays, EndSays, Sorted, OpenAt, Closes, MemberStep, MemberAt};
 
-use record::Spot;
-
-// A record begins with its length in four bytes and its kind in two.
-const KIND: usize = 4;
-
-const HEAD: usize = 6;
-
-// Kinds of record.
-const TUPLE: usize = 0x9;
-
-const OPEN: usize = 0xB;
+use layout::{OPEN, TUPLE};
+use record::Piece;
 
 // The bytes of a word.
 const WORD: usize = 32;
@@ -31,198 +22,166 @@ const ONCE: u64 = 1;
 
 // Arrays.
 
-// Where the last suffix stands: suffixes cannot be read backwards.
-fn last_suffix(b: &[u8]) -> usize
+// The last suffix, found going forwards: suffixes cannot be read backwards.
+#[tactic(auto, using(crate::proofs::Lasting::walk))]
+fn last_suffix(b: &[u8]) -> &[u8]
     requires { SomeSuffixes b.now × (0 < length b.now) }
-    ensures { LastAt b.now result }
+    ensures { LastOf b.now result.now }
 {
-    let mut at = 0;
-    let mut next = layout::get4(b, 0);
-    while next < b.len() {
-        at = next;
-        next += layout::get4(b, next);
+    let mut last = b;
+    loop {
+        let rest = Piece::first(last).rest;
+        if rest.is_empty() {
+            return last;
+        }
+        last = rest;
     }
-    at
 }
 
-// Whether a part is an array is told, or it is if a part of it is one of its elements.
-#[derive(Clone, Copy)]
-enum Step {
-    Told(bool),
-    Down { from: usize, to: usize },
+// Whether what was read ends with the data.
+fn is_whole(end: Option<usize>, d: &[u8]) -> bool
+    ensures { result ≡ ends_at (length d.now) end }
+{
+    match end {
+        Some(end) => end == d.len(),
+        None => false,
+    }
 }
 
-// Where something ends that begins at s: where the next head says, or at the end of the data. A place behind the data stands for none.
-fn end_of(d: &[u8], s: usize, h: usize, seam: usize) -> usize
+// A part of the data is an array, or it is if a part of it is one of its elements. An enum, since an `Option` in an `Option` would name neither.
+#[derive(Clone, Copy, Debug, PartialEq, Eq)]
+enum Step<'a> {
+    Done,
+    Down(&'a [u8]),
+}
+
+// Where something ends that begins at s: where the head at h says.
+fn end_said(d: &[u8], s: usize, h: usize) -> Option<usize>
     requires { Data d.now × (h ≤ length d.now) }
+    ensures { HeadSays d.now s h result }
+{
+    if !words::has(d, h, WORD) {
+        return None;
+    }
+    let end = words::number_at(d, h);
+    if s <= end && end <= d.len() {
+        Some(end)
+    } else {
+        None
+    }
+}
+
+// The same for an element: behind the heads there is none for the last, which ends with the data.
+fn end_of(d: &[u8], s: usize, h: usize, seam: usize) -> Option<usize>
+    requires { Data d.now × (h ≤ length d.now) × (s ≤ length d.now) }
     ensures { EndSays d.now s h seam result }
 {
     if h < seam {
-        if words::has(d, h, WORD) {
-            let c = words::number_at(d, h);
-            if c < s {
-                return words::none(d);
-            }
-            return c;
-        }
-        return words::none(d);
+        end_said(d, s, h)
+    } else {
+        Some(d.len())
     }
-    d.len()
 }
 
 // Two parts, the shorter first.
-#[derive(Clone, Copy)]
-struct Two {
-    short: Spot,
-    long: Spot,
-}
-
-fn sorted(a: Spot, b: Spot) -> Two
-    requires { (a.from ≤ a.to) × (b.from ≤ b.to) }
-    ensures { Sorted a b result }
+fn sorted<'a>(a: &'a [u8], b: &'a [u8]) -> (&'a [u8], &'a [u8])
+    ensures { Sorted a.now b.now result.0.now result.1.now }
 {
-    if a.to - a.from <= b.to - b.from {
-        return Two { short: a, long: b };
-    }
-    Two { short: b, long: a }
+    if a.len() <= b.len() { (a, b) } else { (b, a) }
 }
 
 // So many elements of a dynamic kind: all but the one that takes most.
-#[cycle(array_closes_elements_flat_member_sized_tuple_value)]
-fn elements(t: &[u8], d: &[u8], count: usize) -> Step
+#[cycle(array_closes_elements_member_sized_tuple_value)]
+#[tactic(auto, using(crate::proofs::Choosing::choice))]
+fn elements<'a>(t: &[u8], d: &'a [u8], count: usize) -> Option<Step<'a>>
     requires { Heads t.now d.now count }
-    ensures { SizedStep t.now d.now count result }
+    ensures { ElementsStep t.now d.now count result }
 {
     let seam = WORD * count;
-    if words::is_number(d, 0, seam) {
-        let first = end_of(d, seam, WORD, seam);
-        if d.len() < first {
-            return Step::Told(false);
-        }
-        let mut left = count - 1;
-        let mut h = WORD;
-        let mut s = first;
-        let mut most = Spot {
-            from: seam,
-            to: first,
-        };
-        while 0 < left {
-            h += WORD;
-            let c = end_of(d, s, h, seam);
-            if d.len() < c {
-                return Step::Told(false);
-            }
-            let two = sorted(most, Spot { from: s, to: c });
-            let short = two.short;
-            let from = short.from;
-            let to = short.to;
-            if value(t, &d[from..to]) {
-                most = two.long;
-                s = c;
-                left -= 1;
-            } else {
-                return Step::Told(false);
-            }
-        }
-        return Step::Down {
-            from: most.from,
-            to: most.to,
-        };
+    if !words::is_number(d, 0, seam) {
+        return None;
     }
-    Step::Told(false)
+    let mut start = end_of(d, seam, WORD, seam)?;
+    let mut most = &d[seam..start];
+    for i in 1..count {
+        let end = end_of(d, start, WORD * (i + 1), seam)?;
+        let (short, long) = sorted(most, &d[start..end]);
+        if !value(t, short) {
+            return None;
+        }
+        most = long;
+        start = end;
+    }
+    Some(Step::Down(most))
 }
 
 // So many elements.
-#[cycle(array_closes_elements_flat_member_sized_tuple_value)]
-fn sized(t: &[u8], d: &[u8], count: u64) -> Step
+#[cycle(array_closes_elements_member_sized_tuple_value)]
+#[tactic(auto, using(crate::proofs::Diving::sizes))]
+fn sized<'a>(t: &[u8], d: &'a [u8], count: u64) -> Option<Step<'a>>
     requires { SomeKind t.now × Data d.now }
     ensures { SizedStep t.now d.now count result }
 {
-    let e = extent::of_kind(t);
-    if e.dynamic {
-        if count == 0 {
-            return Step::Told(d.len() == 0);
-        }
-        if ((d.len() / WORD) as u64) < count {
-            return Step::Told(false);
-        }
-        return elements(t, d, count as usize);
+    if !extent::of_kind(t).dynamic {
+        return is_whole(static_kinds::many(t, d, 0, count), d).then_some(Step::Done);
     }
-    Step::Told(static_kinds::many(t, d, 0, count) == d.len())
+    if count == 0 {
+        return d.is_empty().then_some(Step::Done);
+    }
+    if ((d.len() / WORD) as u64) < count {
+        return None;
+    }
+    elements(t, d, count as usize)
 }
 
-// The same behind the word of a count.
-fn behind(s: Step) -> Step
-    requires { Within s }
-    ensures { result ≡ behind s }
+// An array, by its elements' kind and its last suffix.
+#[cycle(array_closes_elements_member_sized_tuple_value)]
+#[tactic(auto, using(crate::proofs::Diving::places))]
+fn array<'a>(t: &[u8], suffix: Piece<'_>, d: &'a [u8]) -> Option<Step<'a>>
+    requires { SomeArray t.now suffix × Data d.now }
+    ensures { ArrayStep t.now suffix.entry d.now result }
 {
-    match s {
-        Step::Told(r) => Step::Told(r),
-        Step::Down { from, to } => Step::Down {
-            from: from + WORD,
-            to: to + WORD,
-        },
+    if suffix.kind != OPEN {
+        return sized(t, d, layout::get8(suffix.body, 0));
     }
-}
-
-// An array, whose last suffix stands at s.
-#[cycle(array_closes_elements_flat_member_sized_tuple_value)]
-fn array(t: &[u8], s: usize, d: &[u8]) -> Step
-    requires { SomeArray t.now s × Data d.now }
-    ensures { ArrayStep t.now s d.now result }
-{
-    if layout::get2(t, s + KIND) == OPEN {
-        if words::has(d, 0, WORD) {
-            let n = words::number_at(d, 0);
-            if MOST < n {
-                return Step::Told(false);
-            }
-            return behind(sized(&t[..s], &d[WORD..], n as u64));
-        }
-        return Step::Told(false);
+    if !words::has(d, 0, WORD) {
+        return None;
     }
-    sized(&t[..s], d, layout::get8(t, s + HEAD))
+    let count = words::number_at(d, 0);
+    if MOST < count {
+        return None;
+    }
+    sized(t, &d[WORD..], count as u64)
 }
 
 // Values.
 
-// A dynamic kind without suffixes.
-#[cycle(array_closes_elements_flat_member_sized_tuple_value)]
-fn flat(t: &[u8], d: &[u8]) -> bool
-    requires { (SomeDynamic t.now × Alone t.now) × Data d.now }
-    ensures { FitsKind t.now d.now result }
-{
-    if layout::get2(t, KIND) == TUPLE {
-        return tuple(&t[HEAD..], d);
-    }
-    words::string(d, 0) == d.len()
-}
-
 // A dynamic kind.
-#[cycle(array_closes_elements_flat_member_sized_tuple_value)]
+#[cycle(array_closes_elements_member_sized_tuple_value)]
+#[tactic(auto, using(crate::proofs::Diving::values))]
 fn value(t: &[u8], d: &[u8]) -> bool
     requires { SomeDynamic t.now × Data d.now }
     ensures { FitsKind t.now d.now result }
 {
-    let mut end = t.len();
-    let mut f = 0;
-    let mut g = d.len();
+    let mut kind = t;
+    let mut part = d;
     loop {
-        let u = &t[..end];
-        let n = layout::get4(u, 0);
-        if n == u.len() {
-            return flat(u, &d[f..g]);
+        let base = Piece::first(kind);
+        if base.rest.is_empty() {
+            return match base.kind {
+                TUPLE => tuple(base.body, part),
+                _ => is_whole(words::string(part, 0), part),
+            };
         }
-        let s = n + last_suffix(&u[n..]);
-        let a = array(u, s, &d[f..g]);
-        match a {
-            Step::Told(r) => {
-                return r;
-            }
-            Step::Down { from, to } => {
-                end = s;
-                g = f + to;
-                f = f + from;
+        let suffix = last_suffix(base.rest);
+        // A place: the records before the last suffix are no part that a piece hands out.
+        let element = &kind[..kind.len() - suffix.len()];
+        match array(element, Piece::first(suffix), part) {
+            None => return false,
+            Some(Step::Done) => return true,
+            Some(Step::Down(down)) => {
+                kind = element;
+                part = down;
             }
         }
     }
@@ -230,106 +189,80 @@ fn value(t: &[u8], d: &[u8]) -> bool
 
 // Tuples.
 
-// Where the next head stands, where the last tail began, and where the kind of its member stands; none has begun where that is empty.
-#[derive(Clone, Copy)]
-struct Open {
+// Where the next head stands, where the last tail began, and the kind of its member, if one has begun.
+#[derive(Clone, Copy, Debug, PartialEq, Eq)]
+struct Open<'a> {
     head: usize,
     tail: usize,
-    kind: Spot,
+    kind: Option<&'a [u8]>,
 }
 
 // Whether the open member ends at a place.
-#[cycle(array_closes_elements_flat_member_sized_tuple_value)]
-fn closes(b: &[u8], d: &[u8], o: Open, end: usize) -> bool
-    requires { OpenAt b.now d.now o × (Data d.now × Inside d.now o.tail end) }
-    ensures { Closes b.now d.now o end result }
+#[cycle(array_closes_elements_member_sized_tuple_value)]
+#[tactic(auto, using(crate::proofs::Joining::closing))]
+fn closes(o: Open<'_>, d: &[u8], end: usize) -> bool
+    requires { OpenAt d.now o × Data d.now × (o.tail ≤ end) × (end ≤ length d.now) }
+    ensures { Closes d.now o.entry end result }
 {
-    let kind = o.kind;
-    let from = kind.from;
-    let to = kind.to;
-    let tail = o.tail;
-    if from == to {
-        return tail == end;
+    match o.kind {
+        Some(kind) => value(kind, &d[o.tail..end]),
+        None => o.tail == end,
     }
-    value(&b[from..to], &d[tail..end])
 }
 
-#[derive(Clone, Copy)]
-enum Next {
-    Go(Open),
-    Stop,
-}
-
-// A member of a tuple whose kind stands at a place.
-#[cycle(array_closes_elements_flat_member_sized_tuple_value)]
-fn member(b: &[u8], kind: Spot, d: &[u8], o: Open) -> Next
-    requires { MemberAt b.now kind d.now o }
-    ensures { MemberStep b.now kind d.now o result }
+// A member of a tuple, by its kind.
+#[cycle(array_closes_elements_member_sized_tuple_value)]
+#[tactic(auto, using(crate::proofs::Joining::joins))]
+fn member<'a>(kind: &'a [u8], d: &[u8], o: Open<'a>) -> Option<Open<'a>>
+    requires { MemberAt kind.now d.now o }
+    ensures { MemberStep kind.now d.now o.entry result }
 {
-    let from = kind.from;
-    let to = kind.to;
-    let head = o.head;
-    let t = &b[from..to];
-    let e = extent::of_kind(t);
-    if e.dynamic {
-        let c = end_of(d, o.tail, head, d.len() + 1);
-        if d.len() < c {
-            return Next::Stop;
-        }
-        if closes(b, d, o, c) {
-            return Next::Go(Open {
-                head: head + WORD,
-                tail: c,
-                kind,
-            });
-        }
-        return Next::Stop;
+    if !extent::of_kind(kind).dynamic {
+        let head = static_kinds::many(kind, d, o.head, ONCE)?;
+        return Some(Open { head, ..o });
     }
-    let q = static_kinds::many(t, d, head, ONCE);
-    if d.len() < q {
-        return Next::Stop;
+    let tail = end_said(d, o.tail, o.head)?;
+    if !closes(o, d, tail) {
+        return None;
     }
-    let last = o.kind;
-    Next::Go(Open {
-        head: q,
-        tail: o.tail,
-        kind: last,
+    Some(Open {
+        head: o.head + WORD,
+        tail,
+        kind: Some(kind),
     })
 }
 
 // The members of a tuple: their heads, and their tails behind them.
-#[cycle(array_closes_elements_flat_member_sized_tuple_value)]
+#[cycle(array_closes_elements_member_sized_tuple_value)]
+#[tactic(auto, using(crate::proofs::Joining::tuples))]
 fn tuple(b: &[u8], d: &[u8]) -> bool
     requires { SomeFields b.now × Data d.now }
     ensures { FitsFields b.now d.now result }
 {
-    let e = extent::of_fields(b);
-    if d.len() < e.head {
+    let heads = extent::of_fields(b).head;
+    if d.len() < heads {
         return false;
     }
-    let mut i = 0;
     let mut o = Open {
         head: 0,
-        tail: e.head,
-        kind: Spot { from: 0, to: 0 },
+        tail: heads,
+        kind: None,
     };
-    while i < b.len() {
-        let k = extent::kind_at(b, i);
-        let n = member(b, k, d, o);
-        match n {
-            Next::Go(p) => {
-                o = p;
-                i = k.to;
-            }
-            Next::Stop => {
-                return false;
-            }
-        }
+    let mut left = b;
+    // A walk over pieces: a loop (`record::Piece`).
+    while !left.is_empty() {
+        let field = Piece::first(left);
+        let Some(next) = member(record::named(field.body).rest, d, o) else {
+            return false;
+        };
+        o = next;
+        left = field.rest;
     }
-    closes(b, d, o, d.len())
+    closes(o, d, d.len())
 }
 
 // Whether data are the encoding of some values of the kinds of fields.
+#[tactic(auto, using(crate::proofs::Joining::call), unfolding(crate::specs::Fits::fits, encoding::specs::Judge::is_encoding))]
 pub fn encoded(b: &[u8], data: &[u8]) -> bool
     requires { SomeFields b.now × (length «data».now ≤ 65536) }
     ensures { Encoded b.now «data».now result }

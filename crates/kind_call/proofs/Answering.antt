@@ -14,7 +14,9 @@ use Rattle.model.specs.Text.{valid_length, peek}
 use Rattle.model.specs.Tree.{Field, field, elementary}
 use Rattle.model.specs.KindText.{err, from_str}
 use Rattle.model.specs.Parser.{Ans, got, bad, on_ans}
-use Rattle.model.specs.Reading.{admit, field_by, tuple_kind, deepest}
+use Rattle.model.specs.Reading.{field_by, tuple_kind, deepest}
+use Rattle.text.specs.Admitted.{refused_first}
+use Rattle.text.proofs.Admitting.{admits, refuses-first}
 use Rattle.model.specs.Record.{encode_elementary, encode_field}
 use Rattle.model.specs.Answer.{writes, refuses, Answer, refusal_at, refusing}
 use Rattle.model.specs.Calls.{written, all_of, crowded, is_bare, tuple_by, read_tuple, read_kind, kind_output}
@@ -130,25 +132,12 @@ module _ (s b : List ℕ) where
 -- Any text.
 
 module _ (s : List ℕ) where
-  pub admit-long : 4096 < length s → admit read_kind s ≡ bad TooLong 0
-  unfolding admit
-  admit-long h = rw (admit, lt-ltb 4096 (length s) h)
-
-  module _ (n : ℕ) (h : length s ≤ 4096) (q : n ≡ valid_length s) where
-    pub admit_invalid : n < length s → admit read_kind s ≡ bad NotUtf8 n
-    unfolding admit
-    admit_invalid k = rw (admit, le-ltb 4096 (length s) h, ← q, lt-ltb n (length s) k) (ap (bad NotUtf8) (sym q))
-
-    pub admitted : length s ≤ n → admit read_kind s ≡ read_kind s
-    unfolding admit
-    admitted k = rw (admit, le-ltb 4096 (length s) h, ← q, le-ltb n (length s) k)
-
-  pub kind-refused : (r : Refused) → admit read_kind s ≡ bad r.refusal r.position → (b : List ℕ) → Ends (kind_output s) b b (Err r)
+  pub kind-refused : (r : Refused) → refused_first s ≡ Some r → (b : List ℕ) → Ends (kind_output s) b b (Err r)
   unfolding kind_output written
-  kind-refused r e b = ends-refused (kind_output s) b (Err r) r.refusal r.position refl (rw e)
+  kind-refused r e b = ends-refused (kind_output s) b (Err r) r.refusal r.position refl (ap (written (encode_field 4)) (refuses-first read_kind s r e))
 
   -- past the limits, by the byte that stands first
-  module _ (a : admit read_kind s ≡ read_kind s) (o : Option ℕ) (q : byte_or_end o ≡ peek s 0) (b b₁ : List ℕ) (r : Answer) where
+  module _ (a : refused_first s ≡ None) (o : Option ℕ) (q : byte_or_end o ≡ peek s 0) (b b₁ : List ℕ) (r : Answer) where
     opens : (o : Option ℕ) → byte_or_end o ≡ peek s 0 → true ≡ option_eq nat_eq o (Some lparen) → peek s 0 ≡ lparen
     unfolding byte_or_end
     opens None f e = absurd (true≢false e)
@@ -164,11 +153,11 @@ module _ (s : List ℕ) where
     kind-tuple e i = rw output i
       where
         output : kind_output s ≡ tuple_output s
-        output = ap (written (encode_field 4)) a ∙ rw (read_kind, opens o q e)
+        output = ap (written (encode_field 4)) (admits read_kind s a) ∙ rw (read_kind, opens o q e)
 
     pub kind-lone : false ≡ option_eq nat_eq o (Some lparen) → Ends (lone_output s) b b₁ r → Ends (kind_output s) b b₁ r
     unfolding kind_output lone_output read_kind
     kind-lone n i = rw output i
       where
         output : kind_output s ≡ lone_output s
-        output = ap (written (encode_field 4)) a ∙ rw (read_kind, ne_eqb (peek s 0) lparen (opens-not o q n))
+        output = ap (written (encode_field 4)) (admits read_kind s a) ∙ rw (read_kind, ne_eqb (peek s 0) lparen (opens-not o q n))

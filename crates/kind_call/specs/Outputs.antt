@@ -1,12 +1,10 @@
 -- What the kind call writes, from the checks that come first to the reading.
 -- Assumes nothing.
-use Rattle.std.specs.Prelude.{◌≡◌, List, ℕ, ◌≤◌, length, Result, Ok, Err}
-use Rattle.model.specs.declared.Refused.{Refused}
+use Rattle.std.specs.Prelude.{List, ℕ, length}
 use Rattle.model.specs.declared.Sort.TheVariants.{Plain}
 use Rattle.model.specs.KindText.{from_str}
-use Rattle.model.specs.Parser.{bad}
 use Rattle.model.specs.Tree.{Field}
-use Rattle.model.specs.Reading.{admit, longest_text, field_by, tuple_kind, deepest}
+use Rattle.model.specs.Reading.{field_by, tuple_kind, deepest}
 use Rattle.model.specs.Record.{encode_field}
 use Rattle.model.specs.Answer.{Output}
 use Rattle.model.specs.Calls.{written, lone_field, all_of, read_kind, read_tuple}
@@ -22,8 +20,3 @@ tuple_output s = written (encode_field 4) (read_tuple s)
 -- and has no blanks and no names
 unfoldable pub whole_output : List ℕ → Output
 whole_output s = written (encode_field 4) (all_of (length s) (field_by Plain (tuple_kind deepest) s 0))
-
--- whether a text is read at all
-abbrev pub AdmitIs : List ℕ → Result (Unit {0}) Refused → Type 0
-AdmitIs s (Ok u) = (length s ≤ longest_text) × (admit read_kind s ≡ read_kind s)
-AdmitIs s (Err r) = admit read_kind s ≡ bad r.refusal r.position

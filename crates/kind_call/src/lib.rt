@@ -4,11 +4,11 @@
 
 ghost use Rattle.std.specs.Prelude.{◌≡◌, false, ◌+◌, ◌*◌, ◌≤◌, ◌<◌, length};
 ghost use Rattle.model.specs.Reading.{deepest, longest_text};
-ghost use Rattle.model.specs.Answer.{said, outcome, after, writes};
+ghost use Rattle.model.specs.Answer.{said, outcome, after};
 ghost use Rattle.model.specs.Calls.{crowded, closes, is_bare, kind_output};
 ghost use Rattle.layout.specs.Answers.{Ends};
 ghost use Rattle.kind_call.specs.Scans.{StepIs, stands_at};
-ghost use Rattle.kind_call.specs.Outputs.{lone_output, tuple_output, whole_output, AdmitIs};
+ghost use Rattle.kind_call.specs.Outputs.{lone_output, tuple_output, whole_output};
 
 use model::{Answer, Mark, Refusal, Refused, Sort};
 
@@ -75,17 +75,6 @@ fn is_bare(s: &[u8]) -> bool
     true
 }
 
-// Writes a record into the lent buffer, if it fits.
-fn store(bytes: &[u8], record: &mut [u8]) -> Answer
-    ensures { Ends (writes bytes.now) «record».old «record».new result }
-{
-    if record.len() < bytes.len() {
-        return Err(Refusal::NoRoom.into());
-    }
-    layout::copy(record, 0, bytes);
-    Ok(bytes.len())
-}
-
 // Two sizes of scratch, since an array is filled with zeros at each call: 10 bytes for each byte of text and for each tuple that may be open.
 const SHORT_TEXT: usize = 256;
 
@@ -107,7 +96,7 @@ fn whole<const N: usize>(text: &[u8], record: &mut [u8]) -> Answer
     if got.next != text.len() {
         return Err(Refusal::Unknown.into());
     }
-    store(&scratch[..got.len], record)
+    layout::deliver(&scratch[..got.len], record)
 }
 
 // A text that starts with `(`.
@@ -148,29 +137,12 @@ fn elementary(text: &[u8], record: &mut [u8]) -> Answer
     Ok(need)
 }
 
-// The limits that come before any reading.
-fn admit(text: &[u8]) -> Result<(), Refused>
-    ensures { AdmitIs text.now result }
-{
-    if LONGEST_TEXT < text.len() {
-        return Err(Refusal::TooLong.into());
-    }
-    let position = text::valid_length(text);
-    if position < text.len() {
-        return Err(Refused {
-            refusal: Refusal::NotUtf8,
-            position,
-        });
-    }
-    Ok(())
-}
-
 // Reads a whole text as a kind and writes a field with mark 0 and an empty name.
 pub fn parse_kind(text: &[u8], record: &mut [u8]) -> Answer
     ensures says { said result ≡ outcome (length «record».old) (kind_output text.now) }
     ensures left { «record».new ≡ after «record».old (kind_output text.now) }
 {
-    admit(text)?;
+    text::admit(text)?;
     if text::peek(text, 0) == Some(b'(') {
         tuple(text, record)
     } else {

@@ -11,6 +11,8 @@ use native.Mathlib.Decide.{dec_lt}
 use lib.Dec.{leb, ltb}
 use lib.ListN.{length, length-append}
 use borrow.Author.Tests.{ltb-false, lt-ltb, le-ltb, leb-true, le-leb, lt-leb, ne_eqb, eqb-false}
+use Rattle.std.specs.Fmt as fmt
+use Rattle.std.proofs.lemmas.Fmt.{decimal_by_steps}
 use Rattle.kinds.specs.Bytes.{all, is_digit, is_word_byte}
 use Rattle.kinds.specs.Decimal.{digits, decimal, value, unsigned, at_most, plain, leading_zero, number}
 use Rattle.kinds.proofs.Logic.{both, left, right, all_append, all_weaken, digit-word}
@@ -202,3 +204,7 @@ number-exact m (c ∷ s) n e =
     let (z, p) = number_read m (c ∷ s) n e in
     let (d, v) = unsigned-value c s n (at-most-value m (unsigned (c ∷ s)) n p) in
     digits_decimal c s d z ∙ ap decimal v
+
+-- std's decimal is plain decimal
+pub std-decimal : (n : ℕ) → n < 2 ^ 64 → fmt.decimal n ≡ decimal n
+std-decimal n h = decimal_by_steps (λ m ds. ds ≡ decimal m) (λ m l. sym (decimal-one m l)) (λ m ds l e. ap (λ x. x ++ ((48 + m % 10) ∷ [])) e ∙ sym (decimal-more m l)) n h

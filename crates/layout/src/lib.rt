@@ -1,9 +1,13 @@
-// Bytes in a lent buffer: little-endian numbers, heads of records, copies and insertions. Each function says all that it leaves.
+// Bytes in a lent buffer: little-endian numbers, heads of records, copies and insertions; and a call's output, copied if all of it fits. Each function
+// says all that it leaves. Numbers stand at places: the front of a record is written after what stands behind it.
 #![tactic(auto)]
 
 ghost use Rattle.std.specs.Prelude.{◌≡◌, ◌+◌, ◌-◌, ◌*◌, ◌≤◌, ◌<◌, length, take, drop};
 ghost use Rattle.model.specs.Layout.{little_endian, le_value};
+ghost use Rattle.model.specs.Answer.{writes, said, outcome, after};
 ghost use Rattle.layout.specs.Buffer.{put, inserted, head, front_of};
+
+use model::{Answer, Refusal};
 
 // A record is its whole length in four bytes, its kind in two, and a body: how long that head is, and where the kind stands.
 pub const HEAD: usize = 6;
@@ -16,7 +20,7 @@ pub const NUMBERED: usize = 8;
 // The front of a field's record: its head, its mark and the head of its name.
 pub const FIELD_FRONT: usize = 14;
 
-// The kinds of record. Elementary kinds and a tuple:
+// The kinds of record: numbers and not an enum, since a lent record may have any. Elementary kinds and a tuple:
 pub const INT: usize = 0x1;
 
 pub const UINT: usize = 0x2;
@@ -171,6 +175,19 @@ pub fn copy(out: &mut [u8], at: usize, src: &[u8])
         1 => copy_ends::<1>(out, at, src),
         0 => {}
     }
+}
+
+// What a call writes, copied if all of it fits.
+#[tactic(auto, unfolding(model::specs::Answer::said, model::specs::Answer::outcome, model::specs::Answer::after, crate::specs::Buffer::put))]
+pub fn deliver(bytes: &[u8], out: &mut [u8]) -> Answer
+    ensures says { said result ≡ outcome (length out.old) (writes bytes.now) }
+    ensures left { out.new ≡ after out.old (writes bytes.now) }
+{
+    if out.len() < bytes.len() {
+        return Err(Refusal::NoRoom.into());
+    }
+    copy(out, 0, bytes);
+    Ok(bytes.len())
 }
 
 // Puts a part in at `at`, before the bytes up to `end`.

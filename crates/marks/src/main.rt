@@ -47,17 +47,11 @@ impl fmt::Display for Place {
 type Record = ArrayVec<u8, LONGEST>;
 
 // A field with a mark, a name, and a kind whose records are given.
-#[derive(Clone, Copy)]
+#[derive(Clone, Copy, Debug, PartialEq, Eq)]
 struct Field<'a> {
     mark: u8,
     name: &'a [u8],
     kind: &'a [u8],
-}
-
-fn put(out: &mut Record, bytes: &[u8]) {
-    for &byte in bytes {
-        let _ = out.try_push(byte);
-    }
 }
 
 // A record of a kind around what `body` puts into it; none here has 256 bytes.
@@ -65,7 +59,7 @@ fn put_record<F: FnOnce(&mut Record)>(out: &mut Record, kind: usize, body: F)
     requires { F.IsAlwaysCallable body }
 {
     let at = out.len();
-    put(out, &[0, 0, 0, 0, (kind % 256) as u8, 0]);
+    tables::put(out, &[0, 0, 0, 0, (kind % 256) as u8, 0]);
     body(out);
     let length = out.len().saturating_sub(at);
     if let Some(first) = out.as_mut_slice().get_mut(at) {
@@ -73,15 +67,16 @@ fn put_record<F: FnOnce(&mut Record)>(out: &mut Record, kind: usize, body: F)
     }
 }
 
+// Two shapes of one record each: what differs is the body.
 fn put_name(out: &mut Record, name: &[u8]) {
-    put_record(out, NAME, |out| put(out, name));
+    put_record(out, NAME, |out| tables::put(out, name));
 }
 
 fn put_field(out: &mut Record, field: Field) {
     put_record(out, FIELD, |out| {
-        put(out, &[field.mark, 0]);
+        tables::put(out, &[field.mark, 0]);
         put_name(out, field.name);
-        put(out, field.kind);
+        tables::put(out, field.kind);
     });
 }
 
@@ -113,7 +108,7 @@ fn put_function<F: FnOnce(&mut Record)>(out: &mut Record, lists: F)
     requires { F.IsAlwaysCallable lists }
 {
     put_record(out, FUNCTION, |out| {
-        put(out, &[NOT_STATED, 0]);
+        tables::put(out, &[NOT_STATED, 0]);
         put_name(out, b"f");
         lists(out);
     });
@@ -137,11 +132,11 @@ fn record_of(place: Place, field: Field) -> Record {
             put_empty(out);
         }),
         Place::Constructor => put_record(out, CONSTRUCTOR, |out| {
-            put(out, &[NOT_STATED, 0]);
+            tables::put(out, &[NOT_STATED, 0]);
             put_list(out, field);
         }),
         Place::Event => put_record(out, EVENT, |out| {
-            put(out, &[0, 0]);
+            tables::put(out, &[0, 0]);
             put_name(out, b"e");
             put_list(out, field);
         }),
@@ -170,9 +165,10 @@ fn line_refusal(place: Place, record: &[u8]) -> u32 {
 }
 
 fn name_refusal(record: &[u8]) -> u32 {
-    let mut refusal = 99;
-    abi::name(record, &mut refusal);
-    refusal
+    match abi::name(record) {
+        Ok(_) => 0,
+        Err(refusal) => refusal.into(),
+    }
 }
 
 // `y` where the record is well formed, `n` where it is not, and `c` for a well-formed constructor, of which there is neither line nor name.

@@ -13,13 +13,6 @@ use borrow.Author.Tests.{le-leb, lt-leb, leb-true, leb-false}
 use Rattle.model.specs.Text.{part}
 use Rattle.model.specs.Message.{escape, escaped, reach, ellipsis, whole_from, whole_to, context}
 use Rattle.kinds.specs.Decimal.{decimal}
-use Rattle.kinds.proofs.Decimal.{decimal-one, decimal-more}
-use Rattle.std.specs.Fmt as fmt
-use Rattle.std.proofs.lemmas.Fmt.{decimal_by_steps}
-
--- std's decimal is plain decimal
-pub std-decimal : (n : ℕ) → n < 2 ^ 64 → fmt.decimal n ≡ decimal n
-std-decimal n h = decimal_by_steps (λ m ds. ds ≡ decimal m) (λ m l. sym (decimal-one m l)) (λ m ds l e. ap (λ x. x ++ ((48 + m % 10) ∷ [])) e ∙ sym (decimal-more m l)) n h
 
 -- a text behind another
 pub escaped_append : (t u : List ℕ) → escaped (t ++ u) ≡ escaped t ++ escaped u

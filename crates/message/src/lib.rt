@@ -5,9 +5,9 @@ ghost use Rattle.std.specs.Prelude.{◌≡◌, [], ◌∷◌, ◌++◌, ◌+◌,
 ghost use Rattle.kinds.specs.Bytes.{ascii};
 ghost use Rattle.kinds.specs.Decimal.{decimal};
 ghost use Rattle.model.specs.Text.{is_tail, part};
-ghost use Rattle.model.specs.Reading.{wanted, keyword_text};
+ghost use Rattle.model.specs.Reading.{keyword_text};
 ghost use Rattle.model.specs.Message.{wording, whole_from, whole_to, ellipsis, context, hex_digit, hex, unicode, escape, escaped, message_output};
-ghost use Rattle.model.specs.Answer.{said, outcome, after, writes};
+ghost use Rattle.model.specs.Answer.{said, outcome, after};
 ghost use Rattle.model.specs.Calls.{read_output};
 ghost use Rattle.message.specs.Lines.{placed, display};
 
@@ -42,6 +42,7 @@ fn write_decimal(line: &mut Line, v: usize)
 
 // Escapes, as Rust's Debug has them.
 
+// The library formats numbers into a `Formatter`, not a digit into a line.
 fn hex_digit(n: u8) -> u8
     requires { n < 16 }
     ensures { result ≡ hex_digit n }
@@ -109,6 +110,7 @@ fn part(s: &[u8], at: usize, n: usize) -> &[u8]
     &rest[..n.min(rest.len())]
 }
 
+// The library has no test for it.
 fn is_tail(c: u8) -> bool
     ensures { result ≡ is_tail c }
 {
@@ -167,35 +169,7 @@ fn write_place(line: &mut Line, s: &[u8], p: usize)
 
 // `ParseErrorKind`'s Display.
 
-// The keyword that a call wants, if any: that which the text starts with, unskipped, for the general call.
-fn wanted(call: Call, text: &[u8]) -> Option<Keyword>
-    ensures { result ≡ wanted call text.now }
-{
-    match call {
-        Call::General => opening(text),
-        Call::Function => Some(Keyword::Function),
-        Call::Constructor => Some(Keyword::Constructor),
-        Call::Event => Some(Keyword::Event),
-        Call::Error => Some(Keyword::Error),
-    }
-}
-
-fn opening(text: &[u8]) -> Option<Keyword>
-    ensures { result ≡ wanted Call.General text.now }
-{
-    if text::begins(b"function", text) {
-        Some(Keyword::Function)
-    } else if text::begins(b"constructor", text) {
-        Some(Keyword::Constructor)
-    } else if text::begins(b"event", text) {
-        Some(Keyword::Event)
-    } else if text::begins(b"error", text) {
-        Some(Keyword::Error)
-    } else {
-        None
-    }
-}
-
+// Not put together of `parser::keyword_text`: a wording is one text.
 fn expected_keyword(k: Keyword) -> &'static [u8]
     ensures { (result.now ≡ ascii "expected " ++ keyword_text k) × (length result.now ≤ 27) }
 {
@@ -225,30 +199,18 @@ fn wording(refusal: Refusal, k: Option<Keyword>) -> Option<&'static [u8]>
 
 // The call.
 
-// Copies a line if all of it fits.
-fn answer(out: &mut [u8], line: &[u8]) -> Answer
-    ensures says { said result ≡ outcome (length out.old) (writes line.now) }
-    ensures left { out.new ≡ after out.old (writes line.now) }
-{
-    if out.len() < line.len() {
-        return Err(Refusal::NoRoom.into());
-    }
-    layout::copy(out, 0, line);
-    Ok(line.len())
-}
-
 // `ParseError`'s Display, where a call refuses a text.
 fn display(call: Call, text: &[u8], r: Refused, out: &mut [u8]) -> Answer
     ensures says { said result ≡ outcome (length out.old) (display call text.now r.refusal r.position) }
     ensures left { out.new ≡ after out.old (display call text.now r.refusal r.position) }
 {
-    let Some(words) = wording(r.refusal, wanted(call, text)) else {
+    let Some(words) = wording(r.refusal, parser::wanted(call, text)) else {
         return Ok(0);
     };
     let mut line = Line::new();
     write(&mut line, words);
     write_place(&mut line, text, r.position);
-    answer(out, &line)
+    layout::deliver(&line, out)
 }
 
 // What the call says of the text. No record fits into one byte.

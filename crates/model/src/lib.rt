@@ -176,12 +176,3 @@ impl TryFrom<usize> for Mark {
         }
     }
 }
-
-// Their numbers.
-pub const UNMARKED: usize = 0;
-
-pub const INDEXED: usize = 1;
-
-pub const CALLDATA: usize = 2;
-
-pub const MEMORY: usize = 3;

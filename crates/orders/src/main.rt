@@ -168,6 +168,7 @@ fn row<P: Print>(rt: &P, line: &[u8]) -> io::Result<()> {
     print!(rt; "\n")
 }
 
+// Each program has a `main` of its own; what they share is in `tables`.
 fn main(rt: HostRuntime) -> io::Result<()> {
     let input = tables::read_input::<INPUT>(&rt)?;
     tables::each_row(&rt, &input, |rt, line| row(rt, line))

@@ -1,12 +1,12 @@
 // A declaration, read part by part into scratch: the keyword, the name, the inputs, the words behind them, the outputs and the end. As in fields, a
-// reader is lent the buffer from where its record begins.
+// reader is lent the buffer from where its record begins, and takes the text and a place in it.
 #![tactic(auto)]
 
 ghost use Rattle.std.specs.Prelude.{◌≡◌, ◌≤◌, ◌<◌, length};
 ghost use Rattle.kinds.specs.Bytes.{ascii};
 ghost use Rattle.model.specs.KindText.{lookup};
 ghost use Rattle.model.specs.Parser.{on_ans, keyword, end};
-ghost use Rattle.model.specs.Reading.{keyword_text, mutabilities, exec, parser_of};
+ghost use Rattle.model.specs.Reading.{keywords, opening_of, wanted, keyword_text, mutabilities, exec, parser_of};
 ghost use Rattle.model.specs.Record.{encode};
 ghost use Rattle.text.specs.Found.{byte_or_end};
 ghost use Rattle.fields.specs.Scratch.{Room};
@@ -15,18 +15,51 @@ ghost use Rattle.parser.specs.Stages.{Did, Took, sort_of, words_of, absent, Opti
 
 use fields::{Failed, Got, Read, Word};
 use layout::{CONSTRUCTOR, ERROR, EVENT, FUNCTION, HEAD, LIST, NAME, NUMBERED};
-use model::{Keyword, Refusal, Refused, Sort};
+use model::{Call, Keyword, Refusal, Refused, Sort};
 
 // "one of the four keywords"
 #[tactic(auto, unfolding(model::specs::Reading::keyword_text))]
 pub fn keyword_text(k: Keyword) -> &'static [u8]
-    ensures { result.now ≡ keyword_text k }
+    ensures same { result.now ≡ keyword_text k }
+    ensures short { length result.now ≤ 11 }
 {
     match k {
         Keyword::Function => b"function",
         Keyword::Constructor => b"constructor",
         Keyword::Event => b"event",
         Keyword::Error => b"error",
+    }
+}
+
+// The keyword that a text starts with, unskipped. Not a loop over the four, since the text is compared with constants so.
+#[tactic(auto, unfolding(model::specs::Reading::keyword_text))]
+fn opening(text: &[u8]) -> Option<Keyword>
+    ensures { result ≡ opening_of keywords text.now }
+{
+    if text::begins(b"function", text) {
+        Some(Keyword::Function)
+    } else if text::begins(b"constructor", text) {
+        Some(Keyword::Constructor)
+    } else if text::begins(b"event", text) {
+        Some(Keyword::Event)
+    } else if text::begins(b"error", text) {
+        Some(Keyword::Error)
+    } else {
+        None
+    }
+}
+
+// The keyword that a call wants: "the general call wants the one it saw".
+#[tactic(auto, unfolding(model::specs::Reading::wanted))]
+pub fn wanted(call: Call, text: &[u8]) -> Option<Keyword>
+    ensures { result ≡ wanted call text.now }
+{
+    match call {
+        Call::General => opening(text),
+        Call::Function => Some(Keyword::Function),
+        Call::Constructor => Some(Keyword::Constructor),
+        Call::Event => Some(Keyword::Event),
+        Call::Error => Some(Keyword::Error),
     }
 }
 
@@ -306,7 +339,7 @@ fn front_length(k: Keyword) -> usize
     }
 }
 
-// The kind of record.
+// The kind of record: not by `From`, since neither type is this crate's.
 #[tactic(auto, unfolding(crate::specs::Stages::code_of))]
 fn code(k: Keyword) -> usize
     ensures { (result ≡ code_of k) × (result < 256) }

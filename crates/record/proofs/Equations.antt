@@ -12,7 +12,7 @@ use lib.Dec.{eqb}
 use lib.ListN.{length, take, drop, length-append}
 use borrow.Author.Tests.{le-leb, lt-leb, ne_eqb}
 use Rattle.kinds.specs.Bytes.{comma, rparen}
-use Rattle.kinds.specs.Kind.{bits, octets, Elementary, int, uint, fixed_bytes, address, bool, bytes, string, Suffix, sized, unsized, Kind, elementary, tuple, array, elementary_text, suffix_text, kind_text, rest_text}
+use Rattle.kinds.specs.Kind.{bits, octets, Elementary, int, uint, fixed_bytes, address, bool, bytes, string, Suffix, Kind, elementary, tuple, array, elementary_text, suffix_text, kind_text, rest_text}
 use Rattle.model.specs.declared.Sort.{Sort}
 use Rattle.model.specs.declared.Sort.TheVariants.{Plain}
 use Rattle.model.specs.Tree.{Base, Field, field, Fields, no_field, more_fields, arrays, base_kind, kind_of, kinds_of}
@@ -23,7 +23,7 @@ use Rattle.model.specs.Written.{suffixes_text}
 use Rattle.model.specs.Reading.{marks_by, marks}
 use Rattle.model.proofs.Decoding.{mapped_end, mapped_step}
 use Rattle.record.proofs.Located.{located_same}
-use Rattle.record.specs.Texts.{located_from, is_mark_at, measured, elementary_from, suffix_from, suffixes_from, base_text_from, kind_from, field_text_from, fields_from, tuple_text_from}
+use Rattle.record.specs.Texts.{size, located_from, is_mark_at, elementary_from, suffix_from, suffixes_from, base_text_from, kind_from, field_text_from, fields_from, tuple_text_from}
 use Rattle.record.proofs.Loops.{Steps}
 
 -- no text of a kind or of a suffix is empty
@@ -38,21 +38,11 @@ elementary-full Elementary.function = omega arith
 elementary-full bytes = omega arith
 elementary-full string = omega arith
 
-suffix-full : (s : Suffix) → 0 < length (suffix_text s)
-unfolding suffix_text
-suffix-full (sized n) = omega arith
-suffix-full unsized = omega arith
-
 pub kind-full : (k : Kind) → 0 < length (kind_text k)
 unfolding kind_text
 kind-full (elementary e) = elementary-full e
 kind-full (tuple ks) = omega arith
 kind-full (array k s) = omega (arith, length-append (kind_text k) (suffix_text s), kind-full k)
-
--- what a text that was put together from what was read is
-on-full : {A : Type 0} (text : A → List ℕ) → ((a : A) → 0 < length (text a)) → (o : Option A) (u : List ℕ) → on_option text o ≡ Some u → 0 < length u
-on-full text h None u e = absurd (none-some u e)
-on-full text h (Some a) u e = rw (← (same_Some _ _ e)) (h a)
 
 -- suffixes, at most k
 unfoldable pub suffixes_in : ℕ → List ℕ → Option (List ℕ)
@@ -68,16 +58,11 @@ suffix_steps = record {
   end = mapped_end 4 [] ◌∷◌ decode_suffix suffix_text suffixes_text ◌++◌ (λ s ss. refl);
   step = mapped_step 4 [] ◌∷◌ decode_suffix suffix_text suffixes_text ◌++◌ (λ s ss. refl);
   long = λ u v. omega (arith, length-append u v);
-  full = λ j body. on-full suffix_text suffix-full (decode_suffix j body);
 }
 
 -- fields, at most k, each with a `,` before it
 unfoldable pub fields_in : Sort → ℕ → ℕ → List ℕ → Option (List ℕ)
 fields_in sort d k b = on_option (λ fs. rest_text (kinds_of fs)) (each_in 4 no_field more_fields (field_from 4 sort (base_from (tuple_from 4 d))) k b)
-
-field-full : (f : Field) → 0 < length (field_text f)
-unfolding field_text
-field-full f = kind-full (kind_of f)
 
 abbrev pub parted : List ℕ → List ℕ → List ℕ
 parted u v = comma ∷ (u ++ v)
@@ -88,38 +73,29 @@ field_steps sort d = let D = field_from 4 sort (base_from (tuple_from 4 d)) in r
   end = mapped_end 4 no_field more_fields D field_text (λ fs. rest_text (kinds_of fs)) parted (λ f fs. refl);
   step = mapped_step 4 no_field more_fields D field_text (λ fs. rest_text (kinds_of fs)) parted (λ f fs. refl);
   long = λ u v. omega (arith, length-append u v);
-  full = λ j body. on-full field_text field-full (D j body);
 }
 
 -- the text in brackets is as long, where there is a field
 module _ (sort : Sort) (d : ℕ) (b : List ℕ) where
-  brackets : (o : Option Fields) (n : ℕ) → n + 1 ≡ measured (on_option (λ fs. rest_text (kinds_of fs)) o)
-      → (n ≡ 0 → 2 ≡ measured (on_option (λ fs. kind_text (tuple (kinds_of fs))) o)) × ((n ≡ 0 → ⊥) → n + 1 ≡ measured (on_option (λ fs. kind_text (tuple (kinds_of fs))) o))
-  unfolding measured kinds_of rest_text kind_text
-  brackets None n e = absurd (omega arith)
-  brackets (Some no_field) n e = (λ z. refl, λ z. absurd (z (omega arith)))
-  brackets (Some (more_fields f fs)) n e = (λ z. absurd (omega (arith, kind-full (kind_of f), length-append (kind_text (kind_of f)) (rest_text (kinds_of fs)))), λ z. e)
+  pub tuple-size : (n m : ℕ) → Some (n + 1) ≡ size (fields_in sort d (length b) b) → (n ≡ 0 → m ≡ 1) → (0 < n → m ≡ n) → Some (1 + m) ≡ size (tuple_text_from sort d b)
+  unfolding fields_in tuple_text_from fields_from kinds_of rest_text kind_text
+  tuple-size n m e x y = go (fields_from sort d b) e
+    where
+      go : (o : Option Fields) → Some (n + 1) ≡ size (on_option (λ fs. rest_text (kinds_of fs)) o) → Some (1 + m) ≡ size (on_option (λ fs. kind_text (tuple (kinds_of fs))) o)
+      go None q = absurd (none-some _ (sym q))
+      go (Some no_field) q = ap Some (omega (arith, same_Some _ _ q, x (omega (arith, same_Some _ _ q))))
+      go (Some (more_fields f fs)) q =
+          let long = length-append (kind_text (kind_of f)) (rest_text (kinds_of fs)) in
+          let z : n + 1 ≡ suc (length (kind_text (kind_of f) ++ rest_text (kinds_of fs))) = same_Some _ _ q in
+          ap Some (omega (arith, z, long, kind-full (kind_of f), y (omega (arith, z, long, kind-full (kind_of f)))))
 
-  pub tuple-empty : (n : ℕ) → n + 1 ≡ measured (fields_in sort d (length b) b) → n ≡ 0 → 2 ≡ measured (tuple_text_from sort d b)
+  pub tuple-none : None ≡ size (fields_in sort d (length b) b) → None ≡ size (tuple_text_from sort d b)
   unfolding fields_in tuple_text_from fields_from
-  tuple-empty n e = (brackets (fields_from sort d b) n e).0
-
-  pub tuple-more : (n : ℕ) → n + 1 ≡ measured (fields_in sort d (length b) b) → (n ≡ 0 → ⊥) → n + 1 ≡ measured (tuple_text_from sort d b)
-  unfolding fields_in tuple_text_from fields_from
-  tuple-more n e = (brackets (fields_from sort d b) n e).1
-
-  pub tuple-none : 0 ≡ measured (fields_in sort d (length b) b) → 0 ≡ measured (tuple_text_from sort d b)
-  unfolding fields_in tuple_text_from fields_from measured kinds_of rest_text
   tuple-none e = go (fields_from sort d b) e
     where
-      go : (o : Option Fields) → 0 ≡ measured (on_option (λ fs. rest_text (kinds_of fs)) o) → 0 ≡ measured (on_option (λ fs. kind_text (tuple (kinds_of fs))) o)
+      go : (o : Option Fields) → None ≡ size (on_option (λ fs. rest_text (kinds_of fs)) o) → None ≡ size (on_option (λ fs. kind_text (tuple (kinds_of fs))) o)
       go None q = refl
-      go (Some no_field) q = absurd (omega arith)
-      go (Some (more_fields f fs)) q = absurd (omega arith)
-
-  pub tuple-full : (u : List ℕ) → tuple_text_from sort d b ≡ Some u → 0 < length u
-  unfolding tuple_text_from
-  tuple-full u e = on-full (λ fs. kind_text (tuple (kinds_of fs))) (λ fs. kind-full (tuple (kinds_of fs))) (fields_from sort d b) u e
+      go (Some fs) q = absurd (none-some _ q)
 
 -- a base: a tuple, or an elementary kind
 module _ (d k : ℕ) (body : List ℕ) where
@@ -146,10 +122,6 @@ module _ (d k : ℕ) (body : List ℕ) where
       inner : (o : Option Elementary) → on_option (λ b. kind_text (base_kind b)) (on_option Base.elementary o) ≡ on_option elementary_text o
       inner None = refl
       inner (Some e) = refl
-
-  pub elementary-filled : (u : List ℕ) → elementary_from k body ≡ Some u → 0 < length u
-  unfolding elementary_from
-  elementary-filled u e = on-full elementary_text elementary-full (decode_elementary k body) u e
 
 -- suffixes behind a kind
 pub arrays-text : (k : Kind) (ss : List Suffix) → kind_text (arrays k ss) ≡ kind_text k ++ suffixes_text ss

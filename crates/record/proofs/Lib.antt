@@ -1,11 +1,11 @@
-pub mod Heads
+pub mod Pieces
+pub mod Standing
 pub mod Lengths
-pub mod Names
-pub mod Located
 pub mod Loops
+pub mod Located
 pub mod Equations
 pub mod Walk
+pub mod Names
+pub mod Fronts
 pub mod Tops
-pub mod There
-pub mod Standing
 pub mod Whole

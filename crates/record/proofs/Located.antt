@@ -7,10 +7,9 @@ use Rattle.std.specs.Prelude.{Option, None, Some}
 use Rattle.std.proofs.lemmas.Option.{none-some, same_Some}
 use Prim.Native.Nat.{ℕ, ◌≤◌, ◌<◌}
 use native.Mathlib.Omega.{arith}
-use native.Mathlib.Decide.{dec_lt}
 use lib.Dec.{leb, eqb}
-use lib.ListN.{length, take, drop, length-drop, drop_of_length-le}
-use borrow.Author.Tests.{eqb-true, lt-leb}
+use lib.ListN.{length}
+use borrow.Author.Tests.{eqb-true, le-leb, lt-leb}
 use Rattle.kinds.specs.Bytes.{between}
 use Rattle.kinds.specs.Kind.{bits, octets, is_bit_width, is_byte_length, Elementary, int, uint, fixed_bytes, address, bool, bytes, string, Suffix}
 use Rattle.model.specs.Tree.{Base, elementary, tuple, Field, field, Fields}
@@ -18,8 +17,9 @@ use Rattle.model.specs.Reading.{is_located, can_specify_location}
 use Rattle.model.specs.Layout.{le_value, Piece, piece, no_piece, piece_of}
 use Rattle.model.specs.Record.{given, on_option, when, ended, on_piece, wholly, Case, case, select, elementary_cases, decode_elementary, decode_suffix, base_from, each_in, decode_suffixes}
 use Rattle.model.proofs.Decoding.{when-some, given-some, on_some, ended_some}
+use Rattle.record.specs.declared.Piece.{Piece as Parsed}
+use Rattle.record.specs.Parts.{taken, PieceIs}
 use Rattle.record.specs.Texts.{is_more, located_at, located_from}
-use Rattle.record.specs.Parts.{Head}
 
 -- what each elementary kind's number tells
 module _ (body : List ℕ) (e : Elementary) where
@@ -96,34 +96,35 @@ module _ (T : List ℕ → Option Fields) (J : Bool → Bool) (m : ℕ) (nm : Li
       based (Some b) e = suffixes b e (decode_suffixes 4 r) refl
 
 -- what the code finds of it
-module _ (t : List ℕ) (n : ℕ) (i : Head t n) where
-  pub located_none : n < 6 → false ≡ located_from t
-  unfolding located_from
-  located_none h = rw (located_from, i.none h)
+module _ (t : List ℕ) where
+  pub located_none : PieceIs t None → false ≡ located_from t
+  unfolding located_from taken
+  located_none i = rw (located_from, ← i.same)
 
-  more-behind : (u : List ℕ) → 0 < length u → is_more u ≡ true
-  more-behind [] h = absurd (omega arith)
-  more-behind (c ∷ u) h = refl
+  module _ (p : Parsed) (i : PieceIs t (Some p)) where
+    located_piece : located_from t ≡ (is_more p.rest.now || between 7 9 p.kind)
+    unfolding located_from taken
+    located_piece = rw (located_from, ← i.same)
 
-  pub located_array : 6 ≤ n → n < length t → true ≡ located_from t
-  unfolding located_from
-  located_array h l = rw (located_from, i.some h, more-behind (drop n t) (rw length-drop (omega arith)))
+    more-behind : (u : List ℕ) → 0 < length u → is_more u ≡ true
+    more-behind [] h = absurd (omega arith)
+    more-behind (c ∷ u) h = refl
 
-  module _ (k : ℕ) (h : 6 ≤ n) (l : length t ≤ n) (e : k ≡ le_value (take 2 (drop 4 t))) where
-    located_alone : located_from t ≡ between 7 9 k
-    unfolding located_from
-    located_alone = rw (located_from, i.some h, drop_of_length-le t l, ← e)
+    pub located_array : 0 < length p.rest.now → true ≡ located_from t
+    located_array h = rw (located_piece, more-behind p.rest.now h)
 
-    pub located_bytes : k ≡ 7 → true ≡ located_from t
-    located_bytes f = rw (located_alone, f)
+    none-behind : (u : List ℕ) → length u ≡ 0 → is_more u ≡ false
+    none-behind [] h = refl
+    none-behind (c ∷ u) h = absurd (omega arith)
 
-    pub located_string : k ≡ 8 → true ≡ located_from t
-    located_string f = rw (located_alone, f)
+    module _ (h : length p.rest.now ≡ 0) where
+      pub located_base : 7 ≤ p.kind → p.kind ≤ 9 → true ≡ located_from t
+      located_base a b = rw (located_piece, none-behind p.rest.now h, le-leb 7 p.kind a, le-leb p.kind 9 b)
 
-    pub located_tuple : k ≡ 9 → true ≡ located_from t
-    located_tuple f = rw (located_alone, f)
+      pub located_low : p.kind < 7 → false ≡ located_from t
+      located_low a = rw (located_piece, none-behind p.rest.now h, lt-leb 7 p.kind a)
 
-    pub located_other : (k ≡ 7 → ⊥) → (k ≡ 8 → ⊥) → (k ≡ 9 → ⊥) → false ≡ located_from t
-    located_other a b c = sym (located_alone ∙ elim (dec_lt k 7) [ yes l ↦ rw (lt-leb 7 k l) | no l ↦ rw (lt-leb k 9 (omega arith)) (and-false (leb 7 k)) ])
+      pub located_high : 9 < p.kind → false ≡ located_from t
+      located_high b = rw (located_piece, none-behind p.rest.now h, lt-leb p.kind 9 b, and-false (leb 7 p.kind))
 
-pub ruleset locating = (located_none, located_array, located_bytes, located_string, located_tuple, located_other)
+pub ruleset locating = (located_none, located_array, located_base, located_low, located_high)

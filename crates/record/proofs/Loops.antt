@@ -3,15 +3,15 @@
 use mathlib.Core.Path.{◌≡◌, refl, sym, ◌∙◌, ap}
 use mathlib.Core.List.{List, []}
 use Rattle.std.specs.Prelude.{Option, None, Some}
-use Prim.Native.Nat.{ℕ, zero, suc, ◌+◌, ◌*◌, ◌-◌, ◌≤◌, ◌<◌}
+use Rattle.std.proofs.lemmas.Option.{none-some, same_Some}
+use Prim.Native.Nat.{ℕ, zero, suc, ◌+◌, ◌≤◌, ◌<◌}
 use native.Mathlib.Omega.{arith}
-use lib.ListN.{length, take, drop, length-drop, drop_of_length-le}
-use lib.Seq.{drop-drop}
-use Rattle.model.specs.Layout.{le_value, no_piece, piece_of}
+use lib.ListN.{length, drop_of_length-le}
+use Rattle.model.specs.Layout.{piece_of}
 use Rattle.model.specs.Record.{given, on_option, on_piece}
-use Rattle.model.proofs.Scans.{part-rest}
-use Rattle.record.specs.Texts.{measured, behind}
-use Rattle.record.specs.Parts.{Head}
+use Rattle.record.specs.declared.Piece.{Piece}
+use Rattle.record.specs.Parts.{taken, PieceIs}
+use Rattle.record.specs.Texts.{size}
 
 -- E k gives the text of at most k records up to the end: each text that `item` gives of a kind and a body is joined to the text of those behind it,
 -- with so many bytes more, and `stop` stands at the end
@@ -19,91 +19,54 @@ pub record Steps (E : ℕ → List ℕ → Option (List ℕ)) (item : ℕ → Li
   pub end : (k : ℕ) → E k [] ≡ Some stop
   pub step : (k : ℕ) (b : List ℕ) → 0 < length b → E (suc k) b ≡ on_piece (piece_of 4 b) (λ j body r. given (item j body) (λ u. on_option (join u) (E k r)))
   pub long : (u v : List ℕ) → length (join u v) ≡ length u + extra + length v
-  pub full : (j : ℕ) (body u : List ℕ) → item j body ≡ Some u → 0 < length u
 
--- the loop: what is left at `at`, with texts of n bytes before it; w is how long it all is, and 0 where there is no text
-pub record Left (E : ℕ → List ℕ → Option (List ℕ)) (w : ℕ) (b : List ℕ) (limit at n : ℕ) : Type 0 where
-  pub left : ℕ
-  pub inside : at ≤ length b
-  pub enough : length b - at ≤ left
-  pub small : n ≤ limit + 2 * at
-  pub same : w ≡ behind n (E left (drop at b))
+-- how long n bytes and a text are
+abbrev pub behind : ℕ → Option (List ℕ) → Option ℕ
+behind n = on_option (λ u. n + length u)
 
-pub measured-none : (o : Option (List ℕ)) → ((u : List ℕ) → o ≡ Some u → 0 < length u) → measured o ≡ 0 → o ≡ None
-unfolding measured
-measured-none None f e = refl
-measured-none (Some u) f e = absurd (omega (arith, f u refl))
-
-behind_join : (join : List ℕ → List ℕ → List ℕ) (extra : ℕ) → ((u v : List ℕ) → length (join u v) ≡ length u + extra + length v)
-    → (n : ℕ) (u : List ℕ) (o : Option (List ℕ)) → behind n (on_option (join u) o) ≡ behind (n + (length u + extra)) o
-unfolding behind
-behind_join join extra h n u None = refl
-behind_join join extra h n u (Some v) = omega (arith, h u v)
+-- what is left of bytes of which all texts have w bytes, if there are such: n bytes stand for what is gone over
+pub record Left (E : ℕ → List ℕ → Option (List ℕ)) (w : Option ℕ) (left : List ℕ) (n : ℕ) : Type 0 where
+  pub most : ℕ
+  pub enough : length left ≤ most
+  pub same : w ≡ behind n (E most left)
 
 module _ (E : ℕ → List ℕ → Option (List ℕ)) (item : ℕ → List ℕ → Option (List ℕ)) (join : List ℕ → List ℕ → List ℕ) (stop : List ℕ) (extra : ℕ) (st : Steps E item join stop extra) where
-  -- no record, one that is no item, and one that is
-  step-none : (k : ℕ) (b : List ℕ) → 0 < length b → length b ≤ k → piece_of 4 b ≡ no_piece → E k b ≡ None
-  step-none zero b h l e = absurd (omega arith)
-  step-none (suc k) b h l e = st.step k b h ∙ rw e
-
-  module _ (b : List ℕ) (l j : ℕ) (i : Head b l) (h : 6 ≤ l) (e : j ≡ le_value (take 2 (drop 4 b))) where
-    stepped : (k : ℕ) → E (suc k) b ≡ given (item j (take (l - 6) (drop 6 b))) (λ u. on_option (join u) (E k (drop l b)))
-    stepped k = st.step k b (omega (arith, i.inside)) ∙ rw (i.some h, ← e)
-
-    step-bad : (k : ℕ) → length b ≤ k → measured (item j (take (l - 6) (drop 6 b))) ≡ 0 → E k b ≡ None
-    step-bad zero m z = absurd (omega (arith, i.inside))
-    step-bad (suc k) m z = stepped k ∙ rw (measured-none (item j (take (l - 6) (drop 6 b))) (st.full j (take (l - 6) (drop 6 b))) z)
-
-    step-next : (k n s : ℕ) → s ≡ measured (item j (take (l - 6) (drop 6 b))) → (s ≡ 0 → ⊥) → behind n (E (suc k) b) ≡ behind (n + (s + extra)) (E k (drop l b))
-    unfolding measured
-    step-next k n s f z = ap (behind n) (stepped k) ∙ go (item j (take (l - 6) (drop 6 b))) f
+  module _ (w : Option ℕ) (left : List ℕ) (n : ℕ) (i : Left E w left n) where
+    pub left_end : length left ≡ 0 → Some (n + length stop) ≡ w
+    left_end h = sym (i.same ∙ ap (behind n) (ap (E i.most) (empty left h) ∙ st.end i.most))
       where
-        go : (o : Option (List ℕ)) → s ≡ measured o → behind n (given o (λ u. on_option (join u) (E k (drop l b)))) ≡ behind (n + (s + extra)) (E k (drop l b))
-        go None q = absurd (z q)
-        go (Some u) q = behind_join join extra st.long n u (E k (drop l b)) ∙ ap (λ x. behind (n + (x + extra)) (E k (drop l b))) (sym q)
+        empty : (t : List ℕ) → length t ≡ 0 → t ≡ []
+        empty t h = drop_of_length-le t {i = 0} (omega arith)
 
-  module _ (w : ℕ) (b : List ℕ) (limit at n : ℕ) (i : Left E w b limit at n) where
-    pub left_end : length b ≤ at → n + length stop ≡ w
-    unfolding behind
-    left_end h = sym (i.same ∙ ap (behind n) (ap (E i.left) (drop_of_length-le b h) ∙ st.end i.left))
+    module _ (h : 0 < length left) where
+      stepped : (r : Option Piece) → PieceIs left r → (k : ℕ) → length left ≤ k → w ≡ behind n (E k left)
+          → (m : ℕ) × (length left ≤ suc m) × (w ≡ behind n (on_piece (taken r) (λ j body t. given (item j body) (λ u. on_option (join u) (E m t)))))
+      stepped r p zero e q = absurd (omega arith)
+      stepped r p (suc k) e q = (k, e, q ∙ ap (behind n) (st.step k left h ∙ rw (← p.same)))
 
-    module _ (l : ℕ) (g : at < length b) (p : Head (take (length b - at) (drop at b)) l) where
-      long : 0 < length (drop at b)
-      long = rw length-drop (omega arith)
+      pub left-none : PieceIs left None → None ≡ w
+      unfolding taken
+      left-none p = let (m, l, q) = stepped None p i.most i.enough i.same in sym q
 
-      enough-left : length (drop at b) ≤ i.left
-      enough-left = rw length-drop i.enough
+    module _ (h : 0 < length left) (p : Piece) (c : PieceIs left (Some p)) where
+      here : (m : ℕ) × (length left ≤ suc m) × (w ≡ behind n (given (item p.kind p.body.now) (λ u. on_option (join u) (E m p.rest.now))))
+      unfolding taken
+      here = stepped h (Some p) c i.most i.enough i.same
 
-      pub left-none : l < 6 → 0 ≡ w
-      unfolding behind
-      left-none z = sym (i.same ∙ ap (behind n) (step-none i.left (drop at b) long enough-left (rw part-rest at (p.none z))))
+      pub left-bad : None ≡ size (item p.kind p.body.now) → None ≡ w
+      left-bad e = let (m, l, q) = here in sym (q ∙ go (item p.kind p.body.now) e m)
+        where
+          go : (o : Option (List ℕ)) → None ≡ size o → (m : ℕ) → behind n (given o (λ u. on_option (join u) (E m p.rest.now))) ≡ None
+          go None e m = refl
+          go (Some u) e m = absurd (none-some _ e)
 
-      module _ (j s : ℕ) (z : 6 ≤ l) (e : j ≡ le_value (take 2 (drop 4 (take (length b - at) (drop at b))))) (f : s ≡ measured (item j (take (l - 6) (drop 6 (take (length b - at) (drop at b)))))) where
-        here : Head (drop at b) l
-        here = rw part-rest at p
+      pub left-next : (s : ℕ) → Some s ≡ size (item p.kind p.body.now) → Left E w p.rest.now (n + (s + extra))
+      left-next s e = let (m, l, q) = here in record { most = m; enough = omega (arith, c.covers); same = q ∙ go (item p.kind p.body.now) e (E m p.rest.now) }
+        where
+          joined : (u : List ℕ) (o : Option (List ℕ)) → s ≡ length u → behind n (on_option (join u) o) ≡ behind (n + (s + extra)) o
+          joined u None e = refl
+          joined u (Some v) e = ap Some (omega (arith, st.long u v))
 
-        kind-here : j ≡ le_value (take 2 (drop 4 (drop at b)))
-        kind-here = rw part-rest at e
-
-        item-here : s ≡ measured (item j (take (l - 6) (drop 6 (drop at b))))
-        item-here = rw part-rest at f
-
-        pub left-bad : s ≡ 0 → 0 ≡ w
-        unfolding behind
-        left-bad y = sym (i.same ∙ ap (behind n) (step-bad (drop at b) l j here z kind-here i.left enough-left (sym item-here ∙ y)))
-
-        pub left-inside : at + l ≤ length b
-        left-inside = omega (arith, here.inside, length-drop at b)
-
-        next_with : (k : ℕ) (m : ℕ) → length b - at ≤ k → w ≡ behind n (E k (drop at b)) → (s ≡ 0 → ⊥) → s + extra ≤ 2 * l → m ≡ n + (s + extra) → Left E w b limit (at + l) m
-        next_with zero m q r y o x = absurd (omega arith)
-        next_with (suc k) m q r y o x = record {
-          left = k;
-          inside = left-inside;
-          enough = omega arith;
-          small = omega (arith, i.small);
-          same = r ∙ step-next (drop at b) l j here z kind-here k n s item-here y ∙ rw (drop-drop l at b, ← x);
-        }
-
-        pub left-next : (m : ℕ) → (s ≡ 0 → ⊥) → s + extra ≤ 2 * l → m ≡ n + (s + extra) → Left E w b limit (at + l) m
-        left-next m y o x = next_with i.left m i.enough i.same y o x
+          go : (o : Option (List ℕ)) → Some s ≡ size o → (t : Option (List ℕ)) → behind n (given o (λ u. on_option (join u) t)) ≡ behind (n + (s + extra)) t
+          go None e t = absurd (none-some s (sym e))
+          go (Some u) e t = joined u t (same_Some _ _ e)

@@ -1,216 +1,139 @@
 -- The walk over suffixes, fields and kinds, by how each function ends.
 -- Assumes nothing.
 use mathlib.Core.Path.{◌≡◌, refl, sym, ◌∙◌, ap}
-use mathlib.Core.Bool.{Bool, true, false, ◌&&◌}
-use mathlib.Core.List.{List, [], ◌∷◌, ◌++◌}
+use mathlib.Core.List.{List, ◌∷◌, [], ◌++◌}
 use Rattle.std.specs.Prelude.{Option, None, Some}
+use Rattle.std.proofs.lemmas.Option.{none-some, same_Some}
 use Prim.Native.Nat.{ℕ, ◌+◌, ◌*◌, ◌-◌, ◌≤◌, ◌<◌}
 use native.Mathlib.Omega.{arith}
-use native.Mathlib.Nat.{zero-add}
-use lib.ListN.{length, take, drop, length-append, length-drop}
-use lib.Seq.{length-take-le, drop-drop}
-use borrow.Author.Tests.{ne_eqb}
+use lib.ListN.{length, length-append}
 use Rattle.kinds.specs.Bytes.{rparen}
 use Rattle.model.specs.declared.Sort.{Sort}
 use Rattle.model.specs.declared.Sort.TheVariants.{Plain}
-use Rattle.model.specs.Layout.{le_value, piece}
-use Rattle.model.specs.Record.{is_field_name, given, on_option, when, on_piece, of_kind}
-use Rattle.model.proofs.Scans.{part-rest}
-use Rattle.record.specs.Texts.{is_mark_at, measured, behind, elementary_from, suffix_from, suffixes_from, base_text_from, kind_from, field_text_from, tuple_text_from}
-use Rattle.record.specs.Parts.{Head, Front}
-use Rattle.record.proofs.Lengths.{elementary-other}
-use Rattle.record.proofs.Loops.{Left, measured-none, left_end, left-none, left-bad, left-next}
-use Rattle.record.proofs.Equations.{suffixes_in, suffixes_in_lem, suffix_steps, fields_in, parted, field_steps, tuple-empty, tuple-more, tuple-none, tuple-full, base-deep, base-tuple, base-elementary, elementary-filled, field-short, field-named, field-other}
+use Rattle.model.specs.Record.{given, on_option}
+use Rattle.record.specs.declared.Piece.{Piece}
+use Rattle.record.specs.Parts.{taken, PieceIs, FrontIs}
+use Rattle.record.specs.Texts.{size, AtMost, elementary_from, suffix_from, suffixes_from, base_text_from, kind_from, field_text_from, tuple_text_from}
+use Rattle.record.proofs.Loops.{Left, behind, left_end, left-none, left-bad, left-next}
+use Rattle.record.proofs.Equations.{suffixes_in, suffixes_in_lem, suffix_steps, fields_in, parted, field_steps, tuple-size, tuple-none, base-deep, base-tuple, base-elementary, field-other}
 
--- how long parts are
-pub rest-length : (t : List ℕ) (n : ℕ) → length (take (length t - n) (drop n t)) ≡ length t - n
-rest-length t n = rw part-rest (length-drop n t)
-
-pub body-length : (t : List ℕ) (n : ℕ) → n ≤ length t → length (take (n - 6) (drop 6 t)) ≡ n - 6
-body-length t n h = length-take-le (n - 6) (drop 6 t) (rw length-drop (omega arith))
+size-behind : (o : Option (List ℕ)) → size o ≡ behind 0 o
+size-behind None = refl
+size-behind (Some u) = ap Some (omega arith)
 
 -- the loop over suffixes
-module _ (b : List ℕ) (text : ℕ) where
-  abbrev pub SuffixesLeft : ℕ → ℕ → Type 0
-  SuffixesLeft at n = Left suffixes_in (behind text (suffixes_from b)) b text at n
+module _ (b : List ℕ) where
+  pub record SuffixesLeft (left : List ℕ) (n : ℕ) : Type 0 where
+    pub is : Left suffixes_in (size (suffixes_from b)) left n
+    pub small : n + 2 * length left ≤ 2 * length b
 
-  pub suffixes-start : SuffixesLeft 0 text
-  suffixes-start = record { left = length b; inside = omega arith; enough = omega arith; small = omega arith; same = ap (behind text) (suffixes_in_lem b) }
+  pub suffixes-start : SuffixesLeft b 0
+  suffixes-start = record { is = record { most = length b; enough = omega arith; same = size-behind (suffixes_from b) ∙ ap (behind 0) (suffixes_in_lem b) }; small = omega arith }
 
-  module _ (at n : ℕ) (i : SuffixesLeft at n) where
-    pub suffixes-end : length b ≤ at → n ≡ behind text (suffixes_from b)
-    suffixes-end h = omega (arith, left_end suffixes_in suffix_from ◌++◌ [] 0 suffix_steps (behind text (suffixes_from b)) b text at n i h)
+  module _ (left : List ℕ) (n : ℕ) (i : SuffixesLeft left n) where
+    pub suffixes-end : length left ≡ 0 → Some n ≡ size (suffixes_from b)
+    suffixes-end h = let z : n + 0 ≡ n = omega arith in rw z at (left_end suffixes_in suffix_from ◌++◌ [] 0 suffix_steps (size (suffixes_from b)) left n i.is h)
 
-    pub suffixes-none : (l : ℕ) → at < length b → Head (take (length b - at) (drop at b)) l → l < 6 → 0 ≡ behind text (suffixes_from b)
-    suffixes-none = left-none suffixes_in suffix_from ◌++◌ [] 0 suffix_steps (behind text (suffixes_from b)) b text at n i
+    pub suffixes-none : 0 < length left → PieceIs left None → None ≡ size (suffixes_from b)
+    suffixes-none = left-none suffixes_in suffix_from ◌++◌ [] 0 suffix_steps (size (suffixes_from b)) left n i.is
 
-    module _ (l k s : ℕ) (g : at < length b) (p : Head (take (length b - at) (drop at b)) l) (z : 6 ≤ l) (e : k ≡ le_value (take 2 (drop 4 (take (length b - at) (drop at b)))))
-        (f : s ≡ measured (suffix_from k (take (l - 6) (drop 6 (take (length b - at) (drop at b)))))) where
-      pub suffixes-bad : s ≡ 0 → 0 ≡ behind text (suffixes_from b)
-      suffixes-bad = left-bad suffixes_in suffix_from ◌++◌ [] 0 suffix_steps (behind text (suffixes_from b)) b text at n i l g p k s z e f
+    module _ (h : 0 < length left) (p : Piece) (c : PieceIs left (Some p)) where
+      pub suffixes-bad : None ≡ size (suffix_from p.kind p.body.now) → None ≡ size (suffixes_from b)
+      suffixes-bad = left-bad suffixes_in suffix_from ◌++◌ [] 0 suffix_steps (size (suffixes_from b)) left n i.is h p c
 
-      pub suffixes-next : (s ≡ 0 → ⊥) → s ≤ 2 * length (take (l - 6) (drop 6 (take (length b - at) (drop at b)))) + 6 → SuffixesLeft (at + l) (n + s)
-      suffixes-next y o =
-          left-next suffixes_in suffix_from ◌++◌ [] 0 suffix_steps (behind text (suffixes_from b)) b text at n i l g p k s z e f (n + s) y
-          (omega (arith, body-length (take (length b - at) (drop at b)) l p.inside)) (omega arith)
+      pub suffixes-next : (s : ℕ) → Some s ≡ size (suffix_from p.kind p.body.now) → s ≤ 2 * length p.body.now + 6 → SuffixesLeft p.rest.now (n + s)
+      suffixes-next s e l = record {
+        is = let z : n + (s + 0) ≡ n + s = omega arith in rw z at (left-next suffixes_in suffix_from ◌++◌ [] 0 suffix_steps (size (suffixes_from b)) left n i.is h p c s e);
+        small = omega (arith, c.covers, i.small);
+      }
 
--- a field's mark and name
-pub front-short : (sort : Sort) (body : List ℕ) → length body < 2 → Front sort body 0
-front-short sort body h = record { inside = omega arith; none = λ _ d. field-short sort d body h; some = λ z. absurd (z refl) }
-
-no_front : (sort : Sort) (body : List ℕ) → ((d : ℕ) → field_text_from sort d 0x10 body ≡ None) → Front sort body 0
-no_front sort body h = record { inside = omega arith; none = λ _. h; some = λ z. absurd (z refl) }
-
-module _ (sort : Sort) (body : List ℕ) (m : ℕ) (h : 2 ≤ length body) (p : Head (take (length body - 2) (drop 2 body)) m) where
-  name-head : Head (drop 2 body) m
-  name-head = rw part-rest at p
-
-  pub front-none : m < 6 → Front sort body 0
-  front-none z = no_front sort body (λ d. field-named sort d body h ∙ rw (name-head.none z))
-
-  module _ (k : ℕ) (z : 6 ≤ m) (e : k ≡ le_value (take 2 (drop 4 (take (length body - 2) (drop 2 body))))) where
-    name-kind : k ≡ le_value (take 2 (drop 4 (drop 2 body)))
-    name-kind = rw part-rest at e
-
-    headed : (d : ℕ) → field_text_from sort d 0x10 body
-        ≡ of_kind 0x11 (piece k (take (m - 6) (drop 6 (drop 2 body))) (drop m (drop 2 body))) (λ nm r₁. when (is_mark_at sort r₁ (le_value (take 2 body)) nm && is_field_name nm) (kind_from d r₁))
-    headed d = field-named sort d body h ∙ rw (name-head.some z, ← name-kind)
-
-    pub front-other : (k ≡ 0x11 → ⊥) → Front sort body 0
-    front-other y = no_front sort body (λ d. headed d ∙ rw (on_piece, ne_eqb k 0x11 y))
-
-    module _ (x : ℕ) (r : Bool) (y : k ≡ 0x11) (f : x ≡ le_value (take 2 (drop 0 body))) (g : r ≡ is_mark_at sort (take (length (take (length body - 2) (drop 2 body)) - m) (drop m (take (length body - 2) (drop 2 body)))) x (take (m - 6) (drop 6 (take (length body - 2) (drop 2 body))))) where
-      mark-here : is_mark_at sort (drop m (drop 2 body)) (le_value (take 2 body)) (take (m - 6) (drop 6 (drop 2 body))) ≡ r
-      mark-here = sym (rw (f, part-rest, part-rest) at g)
-
-      pub front-unmarked : r ≡ false → Front sort body 0
-      front-unmarked o = no_front sort body (λ d. headed d ∙ rw (y, mark-here, o))
-
-      module _ (s : Bool) (o : r ≡ true) (q : s ≡ is_field_name (take (m - 6) (drop 6 (take (length body - 2) (drop 2 body))))) where
-        name-here : is_field_name (take (m - 6) (drop 6 (drop 2 body))) ≡ s
-        name-here = sym (rw part-rest at q)
-
-        pub front-unnamed : s ≡ false → Front sort body 0
-        front-unnamed u = no_front sort body (λ d. headed d ∙ rw (y, mark-here, o, name-here, u))
-
-        pub front-is : s ≡ true → Front sort body (2 + m)
-        front-is u = record {
-          inside = omega (arith, name-head.inside, length-drop 2 body);
-          none = λ w. absurd (omega arith);
-          some = λ _ d. headed d ∙ rw (y, mark-here, o, name-here, u) (ap (kind_from d) (drop-drop m 2 body));
-        }
-
-pub ruleset fronting = (front-short, front-none, front-other, front-unmarked, front-unnamed, front-is)
+pub ruleset suffixes_walk = (suffixes-start, suffixes-end, suffixes-none, suffixes-bad, suffixes-next)
 
 -- a base and its suffixes
-join_texts : (o v : Option (List ℕ)) (s r : ℕ) → s ≡ measured o → (s ≡ 0 → ⊥) → r ≡ behind s v → r ≡ measured (given o (λ u. on_option (λ w. u ++ w) v))
-unfolding measured behind
-join_texts None v s r e z f = absurd (z e)
-join_texts (Some u) None s r e z f = f
-join_texts (Some u) (Some w) s r e z f = omega (arith, length-append u w)
+module _ (d : ℕ) (t : List ℕ) where
+  pub kind-none : PieceIs t None → None ≡ size (kind_from d t)
+  unfolding kind_from taken
+  kind-none p = rw (kind_from, ← p.same)
 
-module _ (d : ℕ) (t : List ℕ) (n : ℕ) (i : Head t n) where
-  pub kind-none : n < 6 → 0 ≡ measured (kind_from d t)
-  unfolding kind_from measured
-  kind-none z = rw (kind_from, i.none z)
+  module _ (p : Piece) (c : PieceIs t (Some p)) where
+    kinded : kind_from d t ≡ given (base_text_from d p.kind p.body.now) (λ u. on_option (λ v. u ++ v) (suffixes_from p.rest.now))
+    unfolding kind_from taken
+    kinded = rw (kind_from, ← c.same)
 
-  module _ (k : ℕ) (h : 6 ≤ n) (e : k ≡ le_value (take 2 (drop 4 t))) where
-    kinded : kind_from d t ≡ given (base_text_from d k (take (n - 6) (drop 6 t))) (λ u. on_option (λ v. u ++ v) (suffixes_from (drop n t)))
-    unfolding kind_from
-    kinded = rw (kind_from, i.some h, ← e)
+    pub kind-bare : None ≡ size (base_text_from d p.kind p.body.now) → None ≡ size (kind_from d t)
+    kind-bare e = ap size (sym (kinded ∙ go (base_text_from d p.kind p.body.now) e))
+      where
+        go : (o : Option (List ℕ)) → None ≡ size o → given o (λ u. on_option (λ v. u ++ v) (suffixes_from p.rest.now)) ≡ None
+        go None e = refl
+        go (Some u) e = absurd (none-some _ e)
 
-    module _ (o : Option (List ℕ)) (b : base_text_from d k (take (n - 6) (drop 6 t)) ≡ o) (full : (u : List ℕ) → o ≡ Some u → 0 < length u) (s : ℕ) (f : s ≡ measured o) where
-      no_base : s ≡ 0 → 0 ≡ measured (kind_from d t)
-      unfolding measured
-      no_base z = rw (kinded, b, measured-none o full (sym f ∙ z))
+    pub kind-torn : None ≡ size (suffixes_from p.rest.now) → None ≡ size (kind_from d t)
+    kind-torn e = ap size (sym (kinded ∙ go (base_text_from d p.kind p.body.now) (suffixes_from p.rest.now) e))
+      where
+        go : (o v : Option (List ℕ)) → None ≡ size v → given o (λ u. on_option (λ w. u ++ w) v) ≡ None
+        go None v e = refl
+        go (Some u) None e = refl
+        go (Some u) (Some w) e = absurd (none-some _ e)
 
-      with_base : (r : ℕ) → (s ≡ 0 → ⊥) → r ≡ behind s (suffixes_from (take (length t - n) (drop n t))) → r ≡ measured (kind_from d t)
-      with_base r z g = rw (kinded, b) (join_texts o (suffixes_from (drop n t)) s r f z (rw part-rest at g))
+    pub kind-is : (s r : ℕ) → Some s ≡ size (base_text_from d p.kind p.body.now) → Some r ≡ size (suffixes_from p.rest.now) → Some (s + r) ≡ size (kind_from d t)
+    kind-is s r e f = go (base_text_from d p.kind p.body.now) (suffixes_from p.rest.now) e f ∙ ap size (sym kinded)
+      where
+        go : (o v : Option (List ℕ)) → Some s ≡ size o → Some r ≡ size v → Some (s + r) ≡ size (given o (λ u. on_option (λ w. u ++ w) v))
+        go None v e f = absurd (none-some s (sym e))
+        go (Some u) None e f = absurd (none-some r (sym f))
+        go (Some u) (Some w) e f = ap Some (omega (arith, same_Some _ _ e, same_Some _ _ f, length-append u w))
 
-    pub kind-deep : k ≡ 9 → d ≡ 0 → 0 ≡ measured (kind_from d t)
-    unfolding measured
-    kind-deep y z = rw (kinded, base-deep d k (take (n - 6) (drop 6 t)) y z)
+-- a base
+module _ (d k : ℕ) (body : List ℕ) where
+  pub base-sunk : k ≡ 9 → d ≡ 0 → None ≡ size (base_text_from d k body)
+  base-sunk e z = ap size (sym (base-deep d k body e z))
 
-    module _ (s : ℕ) (y : k ≡ 9) (z : d ≡ 0 → ⊥) (f : s ≡ measured (tuple_text_from Plain (d - 1) (take (n - 6) (drop 6 t)))) where
-      pub kind_no_tuple : s ≡ 0 → 0 ≡ measured (kind_from d t)
-      kind_no_tuple = no_base (tuple_text_from Plain (d - 1) (take (n - 6) (drop 6 t))) (base-tuple d k (take (n - 6) (drop 6 t)) y z) (tuple-full Plain (d - 1) (take (n - 6) (drop 6 t))) s f
+  pub base-nested : (r : Option ℕ) → k ≡ 9 → (d ≡ 0 → ⊥) → r ≡ size (tuple_text_from Plain (d - 1) body) → r ≡ size (base_text_from d k body)
+  base-nested r e z f = f ∙ ap size (sym (base-tuple d k body e z))
 
-      pub kind-tuple : (r : ℕ) → (s ≡ 0 → ⊥) → r ≡ behind s (suffixes_from (take (length t - n) (drop n t))) → r ≡ measured (kind_from d t)
-      kind-tuple = with_base (tuple_text_from Plain (d - 1) (take (n - 6) (drop 6 t))) (base-tuple d k (take (n - 6) (drop 6 t)) y z) (tuple-full Plain (d - 1) (take (n - 6) (drop 6 t))) s f
+  pub base-plain : (r : Option ℕ) → (k ≡ 9 → ⊥) → r ≡ size (elementary_from k body) → r ≡ size (base_text_from d k body)
+  base-plain r e f = f ∙ ap size (sym (base-elementary d k body e))
 
-    module _ (s : ℕ) (y : k ≡ 9 → ⊥) (f : s ≡ measured (elementary_from k (take (n - 6) (drop 6 t)))) where
-      pub kind_no_elementary : s ≡ 0 → 0 ≡ measured (kind_from d t)
-      kind_no_elementary = no_base (elementary_from k (take (n - 6) (drop 6 t))) (base-elementary d k (take (n - 6) (drop 6 t)) y) (elementary-filled d k (take (n - 6) (drop 6 t))) s f
-
-      pub kind-elementary : (r : ℕ) → (s ≡ 0 → ⊥) → r ≡ behind s (suffixes_from (take (length t - n) (drop n t))) → r ≡ measured (kind_from d t)
-      kind-elementary = with_base (elementary_from k (take (n - 6) (drop 6 t))) (base-elementary d k (take (n - 6) (drop 6 t)) y) (elementary-filled d k (take (n - 6) (drop 6 t))) s f
-
-    -- no kind has this number
-    pub kind-low : (k ≡ 9 → ⊥) → k < 1 → 0 ≡ measured (kind_from d t)
-    kind-low y z =
-        kind_no_elementary 0 y (elementary-other k (take (n - 6) (drop 6 t)) (λ e. omega arith, (λ e. omega arith, (λ e. omega arith, (λ e. omega arith, (λ e. omega arith, (λ e. omega arith, (λ e. omega arith, (λ e. omega arith, tt))))))))) refl
-
-    pub kind-high : (k ≡ 9 → ⊥) → 8 < k → 0 ≡ measured (kind_from d t)
-    kind-high y z = kind_no_elementary 0 y (elementary-other k (take (n - 6) (drop 6 t)) (λ e. omega arith, (λ e. omega arith, (λ e. omega arith, (λ e. omega arith, (λ e. omega arith, (λ e. omega arith, (λ e. omega arith, (λ e. omega arith, tt))))))))) refl
-
-  -- and how long its text may be
-  pub kind-small : (s r : ℕ) → 6 ≤ n → s ≤ 2 * length (take (n - 6) (drop 6 t)) + 8 → r ≤ s + 2 * length (take (length t - n) (drop n t)) → r ≤ 2 * length t
-  kind-small s r h f g = omega (arith, i.inside, body-length t n i.inside, rest-length t n)
-
-  pub kind_fits : (s : ℕ) → 6 ≤ n → s ≤ 2 * length (take (n - 6) (drop 6 t)) + 8 → s + 2 * length (take (length t - n) (drop n t)) ≤ 2 * length t
-  kind_fits s h f = omega (arith, i.inside, body-length t n i.inside, rest-length t n)
-
--- a field
-module _ (sort : Sort) (d k : ℕ) (body : List ℕ) where
-  pub field-not : (k ≡ 0x10 → ⊥) → 0 ≡ measured (field_text_from sort d k body)
-  unfolding measured
-  field-not h = rw (field-other sort d k body h)
-
-  module _ (q : ℕ) (h : k ≡ 0x10) (i : Front sort body q) where
-    pub field-bad : q ≡ 0 → 0 ≡ measured (field_text_from sort d k body)
-    unfolding measured
-    field-bad z = rw (h, i.none z d)
-
-    pub field_is : (r : ℕ) → (q ≡ 0 → ⊥) → r ≡ measured (kind_from d (take (length body - q) (drop q body))) → r ≡ measured (field_text_from sort d k body)
-    field_is r z e = rw (h, i.some z d) (rw part-rest at e)
-
-    pub field-small : (r : ℕ) → r ≤ 2 * length (take (length body - q) (drop q body)) → r ≤ 2 * length body
-    field-small r e = omega (arith, rest-length body q)
+-- a bound that is looser
+pub at-most-more : (n m : ℕ) (r : Option ℕ) → n ≤ m → AtMost n r → AtMost m r
+at-most-more n m None h i = tt
+at-most-more n m (Some l) h i = omega (arith, i)
 
 -- the loop over fields
 module _ (sort : Sort) (d : ℕ) (b : List ℕ) where
-  abbrev pub FieldsLeft : ℕ → ℕ → Type 0
-  FieldsLeft at n = Left (fields_in sort d) (measured (fields_in sort d (length b) b)) b 0 at n
+  pub record FieldsLeft (left : List ℕ) (n : ℕ) : Type 0 where
+    pub is : Left (fields_in sort d) (size (fields_in sort d (length b) b)) left n
+    pub small : n + 2 * length left ≤ 2 * length b
 
-  measured-behind : (o : Option (List ℕ)) → measured o ≡ behind 0 o
-  unfolding measured behind
-  measured-behind None = refl
-  measured-behind (Some u) = sym (zero-add (length u))
+  pub fields-start : FieldsLeft b 0
+  fields-start = record { is = record { most = length b; enough = omega arith; same = size-behind (fields_in sort d (length b) b) }; small = omega arith }
 
-  pub fields-start : FieldsLeft 0 0
-  fields-start = record { left = length b; inside = omega arith; enough = omega arith; small = omega arith; same = measured-behind (fields_in sort d (length b) b) }
+  module _ (left : List ℕ) (n : ℕ) (i : FieldsLeft left n) where
+    pub fields-end : length left ≡ 0 → (m : ℕ) → (n ≡ 0 → m ≡ 1) → (0 < n → m ≡ n) → Some (1 + m) ≡ size (tuple_text_from sort d b)
+    fields-end h m x y = tuple-size sort d b n m (left_end (fields_in sort d) (field_text_from sort d) parted (rparen ∷ []) 1 (field_steps sort d) (size (fields_in sort d (length b) b)) left n i.is h) x y
 
-  module _ (at n : ℕ) (i : FieldsLeft at n) where
-    all_read : length b ≤ at → n + 1 ≡ measured (fields_in sort d (length b) b)
-    all_read h = left_end (fields_in sort d) (field_text_from sort d) parted (rparen ∷ []) 1 (field_steps sort d) (measured (fields_in sort d (length b) b)) b 0 at n i h
+    pub fields-none : 0 < length left → PieceIs left None → None ≡ size (tuple_text_from sort d b)
+    fields-none h p = tuple-none sort d b (left-none (fields_in sort d) (field_text_from sort d) parted (rparen ∷ []) 1 (field_steps sort d) (size (fields_in sort d (length b) b)) left n i.is h p)
 
-    pub fields-empty : length b ≤ at → n ≡ 0 → 2 ≡ measured (tuple_text_from sort d b)
-    fields-empty h z = tuple-empty sort d b n (all_read h) z
+    module _ (h : 0 < length left) (p : Piece) (c : PieceIs left (Some p)) where
+      pub fields-bad : None ≡ size (field_text_from sort d p.kind p.body.now) → None ≡ size (tuple_text_from sort d b)
+      fields-bad e = tuple-none sort d b (left-bad (fields_in sort d) (field_text_from sort d) parted (rparen ∷ []) 1 (field_steps sort d) (size (fields_in sort d (length b) b)) left n i.is h p c e)
 
-    pub fields-end : length b ≤ at → (n ≡ 0 → ⊥) → n + 1 ≡ measured (tuple_text_from sort d b)
-    fields-end h z = tuple-more sort d b n (all_read h) z
+      pub fields-next : (s : ℕ) → Some s ≡ size (field_text_from sort d p.kind p.body.now) → s ≤ 2 * length p.body.now → FieldsLeft p.rest.now (n + (s + 1))
+      fields-next s e l = record {
+        is = left-next (fields_in sort d) (field_text_from sort d) parted (rparen ∷ []) 1 (field_steps sort d) (size (fields_in sort d (length b) b)) left n i.is h p c s e;
+        small = omega (arith, c.covers, i.small);
+      }
 
-    pub fields-none : (l : ℕ) → at < length b → Head (take (length b - at) (drop at b)) l → l < 6 → 0 ≡ measured (tuple_text_from sort d b)
-    fields-none l g p z = tuple-none sort d b (left-none (fields_in sort d) (field_text_from sort d) parted (rparen ∷ []) 1 (field_steps sort d) (measured (fields_in sort d (length b) b)) b 0 at n i l g p z)
+-- a field
+module _ (sort : Sort) (d k : ℕ) (body : List ℕ) where
+  pub field-not : (k ≡ 0x10 → ⊥) → None ≡ size (field_text_from sort d k body)
+  field-not h = ap size (sym (field-other sort d k body h))
 
-    module _ (l k s : ℕ) (g : at < length b) (p : Head (take (length b - at) (drop at b)) l) (z : 6 ≤ l) (e : k ≡ le_value (take 2 (drop 4 (take (length b - at) (drop at b)))))
-        (f : s ≡ measured (field_text_from sort d k (take (l - 6) (drop 6 (take (length b - at) (drop at b)))))) where
-      pub fields-bad : s ≡ 0 → 0 ≡ measured (tuple_text_from sort d b)
-      fields-bad y = tuple-none sort d b (left-bad (fields_in sort d) (field_text_from sort d) parted (rparen ∷ []) 1 (field_steps sort d) (measured (fields_in sort d (length b) b)) b 0 at n i l g p k s z e f y)
+  pub field-bad : k ≡ 0x10 → FrontIs sort body None → None ≡ size (field_text_from sort d k body)
+  field-bad h i = ap size (sym (ap (λ j. field_text_from sort d j body) h ∙ i d))
 
-      pub fields-next : (s ≡ 0 → ⊥) → s ≤ 2 * length (take (l - 6) (drop 6 (take (length b - at) (drop at b)))) → FieldsLeft (at + l) (n + (s + 1))
-      fields-next y o =
-          left-next (fields_in sort d) (field_text_from sort d) parted (rparen ∷ []) 1 (field_steps sort d) (measured (fields_in sort d (length b) b)) b 0 at n i l g p k s z e f (n + (s + 1)) y
-          (omega (arith, body-length (take (length b - at) (drop at b)) l p.inside)) refl
+  pub field-is : k ≡ 0x10 → (n : Piece) → FrontIs sort body (Some n) → (r : Option ℕ) → r ≡ size (kind_from d n.rest.now) → r ≡ size (field_text_from sort d k body)
+  field-is h n i r e = e ∙ ap size (sym (ap (λ j. field_text_from sort d j body) h ∙ i.same d))
 
-pub ruleset walking = (suffixes-start, suffixes-end, suffixes-none, suffixes-bad, suffixes-next, kind-none, kind-deep, kind_no_tuple, kind-tuple, kind_no_elementary, kind-elementary, kind-low, kind-high, kind-small, kind_fits, field-not, field-bad, field_is, field-small, fields-start, fields-empty, fields-end, fields-none, fields-bad, fields-next)
+pub ruleset walking = (kind-none, kind-bare, kind-torn, kind-is, base-sunk, base-nested, base-plain, at-most-more, fields-start, fields-end, fields-none, fields-bad, fields-next, field-not, field-bad, field-is)

@@ -2,6 +2,7 @@
 -- Assumes nothing.
 use Rattle.std.specs.Prelude.{◌≡◌, true, List, ◌++◌, ℕ, ◌≤◌, length}
 use Rattle.kinds.specs.Bytes.{all}
+use Rattle.kinds.specs.Kind.{Suffix}
 use Rattle.model.specs.declared.Sort.{Sort}
 use Rattle.model.specs.Tree.{Field, field, Fields}
 use Rattle.model.specs.Reading.{FieldKind}
@@ -55,3 +56,12 @@ SomeField body = (f : Field) × FieldIs body f
 
 abbrev pub SomeKind : List ℕ → Type 0
 SomeKind t = (k : FieldKind) × KindIs t k
+
+-- b is the records of well-formed suffixes, one behind the other
+pub record SuffixesAre (b : List ℕ) (ss : List Suffix) : Type 0 where
+  pub same : b ≡ encode_suffixes 4 ss
+  pub small : length b ≤ longest_record
+  pub well : all is_suffix ss ≡ true
+
+abbrev pub SomeSuffixes : List ℕ → Type 0
+SomeSuffixes b = (ss : List Suffix) × SuffixesAre b ss

@@ -1,23 +1,50 @@
--- What the check finds of a part of a record, by the definitions.
+-- The records that bytes begin with, as the code takes them apart.
 -- Assumes nothing.
-use Rattle.std.specs.Prelude.{◌≡◌, List, [], ℕ, ◌-◌, ◌≤◌, ◌<◌, length, take, drop, None}
+use Rattle.std.specs.Prelude.{◌≡◌, List, ℕ, ◌+◌, ◌≤◌, ◌<◌, length, take, drop, Option, None, Some}
+use Rattle.model.specs.Layout.{le_value, Piece as Taken, piece, no_piece, piece_of}
 use Rattle.model.specs.declared.Sort.{Sort}
-use Rattle.model.specs.Layout.{le_value, piece, no_piece, piece_of}
+use Rattle.model.specs.declared.Mark.{Mark}
+use Rattle.model.specs.Mark.{mark_number}
+use Rattle.record.specs.declared.Piece.{Piece}
+use Rattle.record.specs.declared.Fronted.{Fronted}
 use Rattle.record.specs.Texts.{kind_from, field_text_from}
 
--- the record that b begins with has n bytes; with n below 6 there is none
-pub record Head (b : List ℕ) (n : ℕ) : Type 0 where
-  pub inside : n ≤ length b
-  pub none : n < 6 → piece_of 4 b ≡ no_piece
-  pub some : 6 ≤ n → piece_of 4 b ≡ piece (le_value (take 2 (drop 4 b))) (take (n - 6) (drop 6 b)) (drop n b)
+-- what a piece says, by the definitions
+unfoldable pub taken : Option Piece → Taken
+taken None = no_piece
+taken (Some p) = piece p.kind p.body.now p.rest.now
 
--- behind the name in a field's body, its base stands at q; with q 0 the body is no field's
-pub record Front (sort : Sort) (body : List ℕ) (q : ℕ) : Type 0 where
-  pub inside : q ≤ length body
-  pub none : q ≡ 0 → (d : ℕ) → field_text_from sort d 0x10 body ≡ None
-  pub some : (q ≡ 0 → ⊥) → (d : ℕ) → field_text_from sort d 0x10 body ≡ kind_from d (drop q body)
+-- it covers all bytes: its head has six of them
+abbrev pub Covers : List ℕ → Option Piece → Type 0
+Covers b None = Unit {0}
+Covers b (Some p) = 6 + length p.body.now + length p.rest.now ≡ length b
 
--- b is one record of kind k
-pub record Alone (k : ℕ) (b : List ℕ) : Type 0 where
-  pub long : 6 ≤ length b
-  pub parts : piece_of 4 b ≡ piece k (drop 6 b) []
+-- the record that b begins with, if there is one
+pub record PieceIs (b : List ℕ) (r : Option Piece) : Type 0 where
+  pub same : taken r ≡ piece_of 4 b
+  pub covers : Covers b r
+
+-- b begins with a record
+pub record Headed (b : List ℕ) : Type 0 where
+  pub low : 6 ≤ le_value (take 4 b)
+  pub inside : le_value (take 4 b) ≤ length b
+
+-- the number in front of a body, with what stands behind it
+abbrev pub FrontedIs : List ℕ → Option Fronted → Type 0
+FrontedIs b None = length b < 2
+FrontedIs b (Some t) = (2 ≤ length b) × (t.number ≡ le_value (take 2 b)) × (t.rest.now ≡ drop 2 b)
+
+-- the mark that a number stands for
+abbrev pub MarkIs : ℕ → Option Mark → Type 0
+MarkIs n None = 3 < n
+MarkIs n (Some m) = n ≡ mark_number m
+
+-- n is the name in a field's body, with the kind behind it; where it is none the body is no field's
+pub record FrontRead (sort : Sort) (body : List ℕ) (n : Piece) : Type 0 where
+  pub there : PieceIs (drop 2 body) (Some n)
+  pub long : 2 ≤ length body
+  pub same : (d : ℕ) → field_text_from sort d 0x10 body ≡ kind_from d n.rest.now
+
+abbrev pub FrontIs : Sort → List ℕ → Option Piece → Type 0
+FrontIs sort body None = (d : ℕ) → field_text_from sort d 0x10 body ≡ None
+FrontIs sort body (Some n) = FrontRead sort body n

@@ -1,39 +1,25 @@
 -- The texts that parts of a record stand for, where those parts are well formed, and how long they are.
 -- Assumes nothing.
-use Rattle.std.specs.Prelude.{Bool, true, false, ◌||◌, List, [], ◌∷◌, ◌++◌, ℕ, ◌+◌, eqb, length, Option, None, Some}
+use Rattle.std.specs.Prelude.{Bool, true, false, ◌||◌, List, [], ◌∷◌, ◌++◌, ℕ, ◌≤◌, length, Option, None, Some}
 use Rattle.kinds.specs.Bytes.{between}
-use Rattle.kinds.specs.Decimal.{decimal}
 use Rattle.kinds.specs.Kind.{Kind, elementary_text, suffix_text, kind_text}
 use Rattle.model.specs.declared.Sort.{Sort}
 use Rattle.model.specs.Tree.{Fields, no_field, more_fields, base_kind, kinds_of}
 use Rattle.model.specs.KindText.{lookup}
 use Rattle.model.specs.Reading.{locations, marks_by}
-use Rattle.model.specs.Layout.{le_value, Piece, piece, no_piece, piece_of}
+use Rattle.model.specs.Layout.{Piece, piece, no_piece, piece_of}
 use Rattle.model.specs.Record.{is_absent, is_mark, given, on_option, on_piece, each, decode_elementary, decode_suffix, decode_suffixes, base_from, field_from, tuple_from}
 use Rattle.model.specs.Line.{field_text}
 use Rattle.model.specs.Written.{suffixes_text}
 
--- how long a text is, and 0 where there is none: none of the texts here is empty
-unfoldable pub measured : Option (List ℕ) → ℕ
-measured None = 0
-measured (Some u) = length u
+-- how long a text is, where there is one
+abbrev pub size : Option (List ℕ) → Option ℕ
+size = on_option length
 
--- the same with n bytes before it
-unfoldable pub behind : ℕ → Option (List ℕ) → ℕ
-behind n None = 0
-behind n (Some u) = n + length u
-
--- a word of so many bytes, with a number of two bytes behind it that passes a test
-unfoldable pub numbered : (ℕ → Bool) → ℕ → List ℕ → ℕ
-numbered t word body =
-    elim (eqb (length body) 2) [
-      | true ↦ elim (t (le_value body)) [ true ↦ word + length (decimal (le_value body)) | false ↦ 0 ]
-      | false ↦ 0
-    ]
-
--- a word of so many bytes, with no body
-unfoldable pub bare : ℕ → List ℕ → ℕ
-bare word body = elim (eqb (length body) 0) [ true ↦ word | false ↦ 0 ]
+-- a number that is at most n, where there is one
+abbrev pub AtMost : ℕ → Option ℕ → Type 0
+AtMost n None = Unit {0}
+AtMost n (Some m) = m ≤ n
 
 -- by a record's kind and body: an elementary kind, and a suffix
 unfoldable pub elementary_from : ℕ → List ℕ → Option (List ℕ)

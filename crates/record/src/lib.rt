@@ -1,644 +1,538 @@
 // Whether bytes that anyone may hand in are a record, and how long the texts are of what they say.
-// Lengths of texts are 0 where there is none: no kind has an empty text.
 #![tactic(auto)]
 
-ghost use Rattle.std.specs.Prelude.{◌≡◌, ◌+◌, ◌*◌, ◌-◌, ◌≤◌, ◌<◌, length, take, drop, true, [], None};
+ghost use Rattle.std.specs.Prelude.{◌≡◌, ◌+◌, ◌*◌, ◌≤◌, ◌<◌, length, take, drop, [], None, Some};
 ghost use Rattle.kinds.specs.Bytes.{is_word};
 ghost use Rattle.kinds.specs.Decimal.{decimal};
-ghost use Rattle.kinds.specs.Kind.{is_bit_width, is_byte_length};
-ghost use Rattle.model.specs.declared.Sort.TheVariants.{Plain, Parameter};
-ghost use Rattle.model.specs.Reading.{attributes};
-ghost use Rattle.model.specs.Record.{is_field_name, is_mark, decode_field, function_from, constructor_from, event_from, error_from, decode, decode_lone};
-ghost use Rattle.record.specs.Says.{Says, NoList, NameEnds, ListIs};
-ghost use Rattle.record.specs.Texts.{located_from, is_free, is_mark_at, measured, behind, numbered, bare, elementary_from, suffix_from, suffixes_from, kind_from, field_text_from, tuple_text_from};
-ghost use Rattle.record.specs.Parts.{Head, Front, Alone};
+ghost use Rattle.model.specs.declared.Sort.TheVariants.{Plain};
+ghost use Rattle.model.specs.Mark.{mark_number};
+ghost use Rattle.model.specs.Record.{is_field_name, decode_field, function_from, constructor_from, event_from, error_from, decode, decode_lone, longest_record};
+ghost use Rattle.record.specs.Parts.{PieceIs, Headed, FrontedIs, MarkIs, FrontIs};
+ghost use Rattle.record.specs.Says.{Says, NameIs, ListIs};
+ghost use Rattle.record.specs.Texts.{size, AtMost, located_from, is_free, is_mark_at, elementary_from, suffix_from, suffixes_from, base_text_from, kind_from, field_text_from, tuple_text_from};
 
-use model::{CALLDATA, INDEXED, Keyword, MEMORY, Sort, UNMARKED};
+use layout::{
+    ADDRESS, BOOL, BYTES, BYTES_N, CONSTRUCTOR, ERROR, EVENT, FIELD, FUNCTION, FUNCTION_KIND, HEAD,
+    INT, KIND, LIST, NAME, OPEN, SIZED, STRING, TUPLE, UINT,
+};
+use model::{Keyword, Mark, Sort};
 use sizes::{BitWidth, ByteLength};
 
-// The length of the record that a part begins with; below 6 where there is none.
-pub fn record_length(b: &[u8]) -> usize
-    ensures { Head b.now result }
-{
-    if b.len() < 6 {
-        return 0;
-    }
-    let n = layout::get4(b, 0);
-    if b.len() < n {
-        return 0;
-    }
-    n
+// The bytes of the number in front of a field's, a function's, a constructor's or an event's body, and of the number of an elementary kind.
+pub const NUMBER: usize = 2;
+
+// The bytes of the length in a fixed suffix.
+const LENGTH: usize = 8;
+
+// The bytes that are taken at once.
+const EIGHT: usize = 8;
+
+// Mutabilities, of a constructor the last two, and whether an event is anonymous.
+const UNSTATED: usize = 2;
+
+const PAYABLE: usize = 3;
+
+const ANONYMOUS: usize = 1;
+
+// "32 nested tuples"
+const DEEPEST: usize = 32;
+
+// "at most 40,960 bytes"
+const LONGEST_RECORD: usize = 40960;
+
+// Pieces. A walk over records is a loop over what is left, not an iterator: its `next` could not ask that a record stands there, and one that tests
+// would take a torn record for the end.
+
+// The record that some bytes begin with: its kind, its body, and the bytes behind it.
+#[derive(Clone, Copy, Debug, PartialEq, Eq)]
+pub struct Piece<'a> {
+    pub kind: usize,
+    pub body: &'a [u8],
+    pub rest: &'a [u8],
 }
 
+impl<'a> Piece<'a> {
+    // Where there is one.
+    #[tactic(auto, using(crate::proofs::Pieces::pieces))]
+    pub fn parse(b: &'a [u8]) -> Option<Piece<'a>>
+        ensures { PieceIs b.now result }
+    {
+        if b.len() < HEAD {
+            return None;
+        }
+        let length = layout::get4(b, 0);
+        if length < HEAD || b.len() < length {
+            return None;
+        }
+        Some(Piece::first(b))
+    }
+
+    // Where it is known that there is one.
+    #[tactic(auto, using(crate::proofs::Pieces::pieces))]
+    pub fn first(b: &'a [u8]) -> Piece<'a>
+        requires { Headed b.now }
+        ensures { PieceIs b.now (Some result) }
+    {
+        let length = layout::get4(b, 0);
+        Piece {
+            kind: layout::get2(b, KIND),
+            body: &b[HEAD..length],
+            rest: &b[length..],
+        }
+    }
+}
+
+// A number in front of a body, and the bytes behind it.
+#[derive(Clone, Copy, Debug, PartialEq, Eq)]
+struct Fronted<'a> {
+    number: usize,
+    rest: &'a [u8],
+}
+
+// The number in front of a field's, a function's, a constructor's or an event's body.
+fn stated(body: &[u8]) -> Option<Fronted<'_>>
+    ensures { FrontedIs body.now result }
+{
+    let rest = body.get(NUMBER..)?;
+    Some(Fronted {
+        number: layout::get2(body, 0),
+        rest,
+    })
+}
+
+// The name in the body of a field, with the field's kind behind it.
+#[tactic(auto, using(crate::proofs::Pieces::pieces))]
+pub fn named(body: &[u8]) -> Piece<'_>
+    requires { (2 ≤ length body.now) × Headed (drop 2 body.now) }
+    ensures { PieceIs (drop 2 body.now) (Some result) }
+{
+    Piece::first(&body[NUMBER..])
+}
+
+// Lengths of texts.
+
 // How many digits a number of at most four has.
+#[tactic(auto, using(crate::proofs::Lengths::lengths))]
 fn short_length(v: u64) -> usize
     requires { v < 10000 }
     ensures { (result ≡ length (decimal v)) × (result ≤ 4) }
 {
-    if v < 10 {
-        return 1;
+    match v {
+        0..=9 => 1,
+        10..=99 => 2,
+        100..=999 => 3,
+        _ => 4,
     }
-    if v < 100 {
-        return 2;
-    }
-    if v < 1000 {
-        return 3;
-    }
-    4
 }
 
-// How many digits a number has. Four are taken at once, since each division waits for the one before.
+// How many digits a number has. Four are taken at once, since each division waits for the one before; the library has no `ilog10`.
+#[tactic(auto, using(crate::proofs::Lengths::lengths))]
 pub fn decimal_length(v: u64) -> usize
     ensures { (result ≡ length (decimal v)) × (result ≤ 20) }
 {
     let mut n = 0;
     let mut rest = v;
     while 10000 <= rest {
-        rest = rest / 10000;
+        rest /= 10000;
         n += 4;
     }
     n + short_length(rest)
 }
 
-// The same for a number of at most three digits.
-fn small_length(v: usize) -> usize
-    requires { v < 1000 }
-    ensures { (result ≡ length (decimal v)) × (result ≤ 3) }
-{
-    if v < 10 {
-        return 1;
-    }
-    if v < 100 {
-        return 2;
-    }
-    3
-}
-
-// A kind with a bit width behind a word of so many bytes.
-fn width(word: usize, body: &[u8]) -> usize
-    requires { word ≤ 5 }
-    ensures { (result ≡ numbered is_bit_width word body.now) × (result ≤ word + 3) }
-{
-    if body.len() == 2 {
-        let c = BitWidth::new(layout::get2(body, 0) as u32);
-        return match c {
-            Some(w) => word + small_length(w.get() as usize),
-            None => 0,
-        };
-    }
-    0
-}
-
-// A kind with a byte length behind a word of so many bytes.
-fn byte_length(word: usize, body: &[u8]) -> usize
-    requires { word ≤ 5 }
-    ensures { (result ≡ numbered is_byte_length word body.now) × (result ≤ word + 3) }
-{
-    if body.len() == 2 {
-        let c = ByteLength::new(layout::get2(body, 0));
-        return match c {
-            Some(n) => word + small_length(n.get()),
-            None => 0,
-        };
-    }
-    0
-}
-
-// A kind that is a word alone.
-fn bare(word: usize, body: &[u8]) -> usize
-    ensures { (result ≡ bare word body.now) × (result ≤ word) }
-{
-    if body.len() == 0 {
-        return word;
-    }
-    0
-}
-
-// The text of an elementary kind with a number, by its record's kind and body.
-fn numbered(k: usize, body: &[u8]) -> usize
+// An elementary kind with a number, by its record's kind and body.
+#[tactic(auto, using(crate::proofs::Lengths::sizes))]
+fn numbered(kind: usize, body: &[u8]) -> Option<usize>
     requires { length body.now ≡ 2 }
-    ensures { (result ≡ measured (elementary_from k body.now)) × (result ≤ 8) }
+    ensures same { result ≡ size (elementary_from kind body.now) }
+    ensures small { AtMost 9 result }
 {
-    match k {
-        1 => width(3, body),
-        2 => width(4, body),
-        5 => byte_length(5, body),
-        _ => 0,
+    let number = layout::get2(body, 0);
+    match kind {
+        INT => Some(b"int".len() + short_length(BitWidth::new(number as u32)?.get() as u64)),
+        UINT => Some(b"uint".len() + short_length(BitWidth::new(number as u32)?.get() as u64)),
+        BYTES_N => Some(b"bytes".len() + short_length(ByteLength::new(number)?.get() as u64)),
+        _ => None,
     }
 }
 
-// The same for one without.
-fn worded(k: usize) -> usize
-    ensures { (result ≡ measured (elementary_from k [])) × (result ≤ 8) }
+// One without.
+#[tactic(auto, using(crate::proofs::Lengths::sizes))]
+fn worded(kind: usize) -> Option<usize>
+    ensures same { result ≡ size (elementary_from kind []) }
+    ensures small { AtMost 9 result }
 {
-    match k {
-        3 => 7,
-        4 => 4,
-        6 => 8,
-        7 => 5,
-        8 => 6,
-        _ => 0,
+    match kind {
+        ADDRESS => Some(b"address".len()),
+        BOOL => Some(b"bool".len()),
+        FUNCTION_KIND => Some(b"function".len()),
+        BYTES => Some(b"bytes".len()),
+        STRING => Some(b"string".len()),
+        _ => None,
     }
 }
 
-// The text of an elementary kind, by its record's kind and body. The body's length comes first: it parts the kinds more evenly than a jump by
-// kind does.
-fn elementary(k: usize, body: &[u8]) -> usize
-    ensures { (result ≡ measured (elementary_from k body.now)) × (result ≤ 8) }
+// An elementary kind. The body's length comes first: it parts the kinds more evenly than a jump by kind does.
+#[tactic(auto, using(crate::proofs::Lengths::sizes))]
+fn elementary(kind: usize, body: &[u8]) -> Option<usize>
+    ensures same { result ≡ size (elementary_from kind body.now) }
+    ensures small { AtMost 9 result }
 {
-    if body.len() == 2 {
-        return numbered(k, body);
-    }
-    if body.len() == 0 {
-        return worded(k);
-    }
-    0
-}
-
-// The text of a suffix, by its record's kind and body.
-fn suffix(k: usize, body: &[u8]) -> usize
-    ensures { (result ≡ measured (suffix_from k body.now)) × (result ≤ 2 * length body.now + 6) }
-{
-    match k {
-        10 => {
-            if body.len() == 8 {
-                return 2 + decimal_length(layout::get8(body, 0));
-            }
-            0
-        }
-        11 => bare(2, body),
-        _ => 0,
+    match body.len() {
+        NUMBER => numbered(kind, body),
+        0 => worded(kind),
+        _ => None,
     }
 }
 
-// The suffixes up to the end, behind a text of so many bytes.
-fn suffixes(b: &[u8], text: usize) -> usize
-    requires { text + 2 * length b.now < 18446744073709551616 }
-    ensures { (result ≡ behind text (suffixes_from b.now)) × (result ≤ text + 2 * length b.now) }
+// A suffix, by its record's kind and body.
+#[tactic(auto, using(crate::proofs::Lengths::suffixing))]
+fn suffix(kind: usize, body: &[u8]) -> Option<usize>
+    ensures same { result ≡ size (suffix_from kind body.now) }
+    ensures small { AtMost (2 * length body.now + 6) result }
 {
-    let mut at = 0;
-    let mut n = text;
-    while at < b.len() {
-        let t = &b[at..];
-        let l = record_length(t);
-        if l < 6 {
-            return 0;
-        }
-        let s = suffix(layout::get2(t, 4), &t[6..l]);
-        if s == 0 {
-            return 0;
-        }
-        n += s;
-        at += l;
+    match (kind, body.len()) {
+        (SIZED, LENGTH) => Some(b"[]".len() + decimal_length(layout::get8(body, 0))),
+        (OPEN, 0) => Some(b"[]".len()),
+        _ => None,
     }
-    n
 }
 
-// "names that are words": whether the bytes from a place of a part up to another are one. The part goes on behind them, so that there are eight
-// bytes to take at once; most names are of at most eight letters.
-fn is_word(t: &[u8], from: usize, to: usize) -> bool
-    requires { (from ≤ to) × (to ≤ length t.now) }
-    ensures { result ≡ is_word (take (to - from) (drop from t.now)) }
+// The suffixes up to the end.
+#[tactic(auto, using(crate::proofs::Walk::suffixes_walk))]
+fn suffixes(b: &[u8]) -> Option<usize>
+    ensures same { result ≡ size (suffixes_from b.now) }
+    ensures small { AtMost (2 * length b.now) result }
 {
-    if from == to {
+    let mut left = b;
+    let mut n = 0;
+    // A walk over pieces: a loop (`Piece`).
+    while !left.is_empty() {
+        let piece = Piece::parse(left)?;
+        n += suffix(piece.kind, piece.body)?;
+        left = piece.rest;
+    }
+    Some(n)
+}
+
+// The text of the fields of a list of a sort in brackets, where d tuples may nest: behind each field stands a `,` or the last bracket.
+#[tactic(auto, using(crate::proofs::Walk::walking))]
+#[cycle(base_field_fields_kind)]
+pub fn fields(b: &[u8], sort: Sort, d: usize) -> Option<usize>
+    ensures same { result ≡ size (tuple_text_from sort d b.now) }
+    ensures small { AtMost (2 * length b.now + 2) result }
+{
+    let mut left = b;
+    let mut n = 0;
+    // A walk over pieces: a loop (`Piece`).
+    while !left.is_empty() {
+        let piece = Piece::parse(left)?;
+        n += field(piece.kind, piece.body, sort, d)? + 1;
+        left = piece.rest;
+    }
+    Some(b"(".len() + n.max(b")".len()))
+}
+
+// The kind of a field, by its record's kind and body.
+#[tactic(auto, using(crate::proofs::Walk::walking))]
+#[cycle(base_field_fields_kind)]
+fn field(k: usize, body: &[u8], sort: Sort, d: usize) -> Option<usize>
+    ensures same { result ≡ size (field_text_from sort d k body.now) }
+    ensures small { AtMost (2 * length body.now) result }
+{
+    if k == FIELD {
+        kind(front(body, sort)?.rest, d)
+    } else {
+        None
+    }
+}
+
+// A base and its suffixes.
+#[tactic(auto, using(crate::proofs::Walk::walking))]
+#[cycle(base_field_fields_kind)]
+fn kind(t: &[u8], d: usize) -> Option<usize>
+    ensures same { result ≡ size (kind_from d t.now) }
+    ensures small { AtMost (2 * length t.now) result }
+{
+    let piece = Piece::parse(t)?;
+    Some(base(piece.kind, piece.body, d)? + suffixes(piece.rest)?)
+}
+
+// A base, by its record's kind and body. A tuple is gone into only where one may still nest.
+#[tactic(auto, using(crate::proofs::Walk::walking))]
+#[cycle(base_field_fields_kind)]
+fn base(kind: usize, body: &[u8], d: usize) -> Option<usize>
+    ensures same { result ≡ size (base_text_from d kind body.now) }
+    ensures small { AtMost (2 * length body.now + 12) result }
+{
+    match (kind, d) {
+        (TUPLE, 0) => None,
+        (TUPLE, _) => fields(body, Sort::Plain, d - 1),
+        _ => elementary(kind, body),
+    }
+}
+
+// Names and marks.
+
+// "names that are words": whether the first n bytes of a part are one. The part goes on behind them, so that there are eight bytes to take at once;
+// most names are of at most eight letters.
+#[tactic(auto, using(crate::proofs::Names::naming))]
+fn is_word(t: &[u8], n: usize) -> bool
+    requires { n ≤ length t.now }
+    ensures { result ≡ is_word (take n t.now) }
+{
+    if n == 0 {
         return false;
     }
-    if 8 <= t.len() - from {
-        if to - from <= text::letters(t, from) {
-            return true;
-        }
+    if EIGHT <= t.len() && n <= text::letters(t, 0) {
+        return true;
     }
-    to - from <= text::word(&t[from..])
+    n <= text::word(t)
 }
 
 // "(only a field's may be empty)"
-fn is_field_name(t: &[u8], from: usize, to: usize) -> bool
-    requires { (from ≤ to) × (to ≤ length t.now) }
-    ensures { result ≡ is_field_name (take (to - from) (drop from t.now)) }
+#[tactic(auto, using(crate::proofs::Names::naming))]
+fn is_field_name(t: &[u8], n: usize) -> bool
+    requires { n ≤ length t.now }
+    ensures { result ≡ is_field_name (take n t.now) }
 {
-    if from == to {
-        return true;
-    }
-    is_word(t, from, to)
+    n == 0 || is_word(t, n)
 }
 
-// The kinds of record that are a base at which a data location may stand.
-const BYTES: usize = 0x7;
-
-const STRING: usize = 0x8;
-
-const TUPLE: usize = 0x9;
-
 // Whether a data location may stand at a kind, by the records of its base and its suffixes: "only at arrays, tuples, `bytes` and `string`".
+#[tactic(auto, using(crate::proofs::Located::locating))]
 fn is_located(t: &[u8]) -> bool
     ensures { result ≡ located_from t.now }
 {
-    let n = record_length(t);
-    if n < 6 {
-        return false;
-    }
-    if n < t.len() {
-        return true;
-    }
-    match layout::get2(t, 4) {
-        BYTES => true,
-        STRING => true,
-        TUPLE => true,
-        _ => false,
+    match Piece::parse(t) {
+        Some(base) => !base.rest.is_empty() || matches!(base.kind, BYTES | STRING | TUPLE),
+        None => false,
     }
 }
 
 // Whether a name is no data location.
+#[tactic(auto, using(crate::proofs::Names::naming))]
 fn is_free(name: &[u8]) -> bool
     ensures { result ≡ is_free name.now }
 {
-    if text::equal(b"calldata", name) {
-        return false;
-    }
-    if text::equal(b"memory", name) {
-        return false;
-    }
-    true
+    !text::equal(b"calldata", name) && !text::equal(b"memory", name)
 }
 
-// Marks 2 and 3 "stand only in a function's or constructor's own lists, not inside tuples, at kinds that admit them. Such a field with mark 0 and
-// the name `calldata` or `memory` is no longer well formed." The kind is looked at only where it decides.
-fn is_parameter_mark(mark: usize, name: &[u8], kind: &[u8]) -> bool
-    ensures { result ≡ is_mark_at Parameter kind.now mark name.now }
+// The mark that a number stands for.
+fn mark(number: usize) -> Option<Mark>
+    ensures { MarkIs number result }
 {
-    if mark == UNMARKED {
-        if is_free(name) {
-            return true;
-        }
-        if is_located(kind) {
-            return false;
-        }
-        return true;
-    }
-    if mark == CALLDATA {
-        return is_located(kind);
-    }
-    if mark == MEMORY {
-        return is_located(kind);
-    }
-    false
+    Mark::try_from(number).ok()
 }
 
-// "mark 1 only in an event's own list, and there no mark 0 with the name `indexed`"
-fn is_event_mark(mark: usize, name: &[u8]) -> bool
-    ensures { result ≡ is_mark attributes mark name.now }
+// Whether a field's mark suits its name and its kind, whose records stand in `kind`: "mark 1 only in an event's own list, and there no mark 0 with
+// the name `indexed`". Marks 2 and 3 "stand only in a function's or constructor's own lists, not inside tuples, at kinds that admit them. Such a field
+// with mark 0 and the name `calldata` or `memory` is no longer well formed." The kind is looked at only where it decides.
+#[tactic(auto, using(crate::proofs::Names::marking))]
+fn is_mark(sort: Sort, mark: Mark, name: &[u8], kind: &[u8]) -> bool
+    ensures { result ≡ is_mark_at sort kind.now (mark_number mark) name.now }
 {
-    if mark == UNMARKED {
-        if text::equal(b"indexed", name) {
-            return false;
-        }
-        return true;
+    match (sort, mark) {
+        (Sort::Plain, Mark::Unmarked) => true,
+        (Sort::Parameter, Mark::Unmarked) => is_free(name) || !is_located(kind),
+        (Sort::Parameter, Mark::Indexed) => false,
+        (Sort::Parameter, _) => is_located(kind),
+        (Sort::Event, Mark::Unmarked) => !text::equal(b"indexed", name),
+        (Sort::Event, Mark::Indexed) => true,
+        _ => false,
     }
-    mark == INDEXED
 }
 
-// Whether a field's mark suits its name and its kind, whose records stand in `kind`.
-fn is_mark(sort: Sort, mark: usize, name: &[u8], kind: &[u8]) -> bool
-    ensures { result ≡ is_mark_at sort kind.now mark name.now }
+// The name in the body of a field whose mark and name are well formed, with the field's kind behind it.
+fn front(body: &[u8], sort: Sort) -> Option<Piece<'_>>
+    ensures { FrontIs sort body.now result }
 {
-    match sort {
-        Sort::Plain => mark == UNMARKED,
-        Sort::Parameter => is_parameter_mark(mark, name, kind),
-        Sort::Event => is_event_mark(mark, name),
+    let stated = stated(body)?;
+    let mark = mark(stated.number)?;
+    let name = Piece::parse(stated.rest)?;
+    if name.kind == NAME
+        && is_mark(sort, mark, name.body, name.rest)
+        && is_field_name(&stated.rest[HEAD..], name.body.len())
+    {
+        Some(name)
+    } else {
+        None
     }
 }
 
-// The place behind a field's name in its record's body; 0 where its mark or its name is not well formed.
-fn front(body: &[u8], sort: Sort) -> usize
-    ensures { Front sort body.now result }
-{
-    if body.len() < 2 {
-        return 0;
-    }
-    let t = &body[2..];
-    let m = record_length(t);
-    if m < 6 {
-        return 0;
-    }
-    if layout::get2(t, 4) == 0x11 {
-        let name = &t[6..m];
-        if is_mark(sort, layout::get2(body, 0), name, &t[m..]) {
-            if is_field_name(t, 6, m) {
-                return 2 + m;
-            }
-        }
-    }
-    0
-}
+// Declarations.
 
-// The text of the fields of a list of a sort in brackets, where d tuples may nest.
-#[cycle(field_fields_kind)]
-pub fn fields(b: &[u8], sort: Sort, d: usize) -> usize
-    ensures { (result ≡ measured (tuple_text_from sort d b.now)) × (result ≤ 2 * length b.now + 2) }
-{
-    let mut at = 0;
-    let mut n = 0;
-    while at < b.len() {
-        let t = &b[at..];
-        let l = record_length(t);
-        if l < 6 {
-            return 0;
-        }
-        let s = field(layout::get2(t, 4), &t[6..l], sort, d);
-        if s == 0 {
-            return 0;
-        }
-        n += s + 1;
-        at += l;
-    }
-    if n == 0 {
-        return 2;
-    }
-    n + 1
-}
-
-// The text of a field's kind, by its record's kind and body.
-#[cycle(field_fields_kind)]
-fn field(k: usize, body: &[u8], sort: Sort, d: usize) -> usize
-    ensures { (result ≡ measured (field_text_from sort d k body.now)) × (result ≤ 2 * length body.now) }
-{
-    if k == 0x10 {
-        let q = front(body, sort);
-        if q == 0 {
-            return 0;
-        }
-        return kind(&body[q..], d);
-    }
-    0
-}
-
-// The text of a base and its suffixes. A tuple is gone into only where one may still nest.
-#[cycle(field_fields_kind)]
-fn kind(t: &[u8], d: usize) -> usize
-    ensures { (result ≡ measured (kind_from d t.now)) × (result ≤ 2 * length t.now) }
-{
-    let n = record_length(t);
-    if n < 6 {
-        return 0;
-    }
-    let k = layout::get2(t, 4);
-    match k {
-        1..=8 => {
-            let s = elementary(k, &t[6..n]);
-            if s == 0 {
-                return 0;
-            }
-            suffixes(&t[n..], s)
-        }
-        9 => {
-            if d == 0 {
-                return 0;
-            }
-            let s = fields(&t[6..n], Sort::Plain, d - 1);
-            if s == 0 {
-                return 0;
-            }
-            suffixes(&t[n..], s)
-        }
-        _ => 0,
-    }
-}
-
-// A part of the record, from a place up to another.
-#[derive(Clone, Copy)]
-pub struct Spot {
-    pub from: usize,
-    pub to: usize,
-}
-
-// The same, with the length of the text that it stands for.
-#[derive(Clone, Copy)]
-pub struct Measured {
-    pub from: usize,
-    pub to: usize,
+// A part of a record, with the length of the text that it stands for: the fields of a list, in brackets, or a base and its suffixes.
+#[derive(Clone, Copy, Debug, PartialEq, Eq)]
+pub struct Measured<'a> {
+    pub bytes: &'a [u8],
     pub text: usize,
 }
 
-// What a record says: where its name and its lists stand, and how long the lists are in brackets; for a field, where its name and its kind
-// stand, and how long its kind is. Only a function has outputs. What each case means is in specs/Says.antt.
-#[derive(Clone, Copy)]
-pub enum Checked {
+// What a record says: its name, and its lists; a field's name, and its kind. Only a function has outputs. What each case means is in specs/Says.antt.
+#[derive(Clone, Copy, Debug, PartialEq, Eq)]
+pub enum Checked<'a> {
     Declared {
         keyword: Keyword,
-        name: Spot,
-        inputs: Measured,
-        outputs: Measured,
+        name: &'a [u8],
+        inputs: Measured<'a>,
+        outputs: Option<Measured<'a>>,
     },
-    Constructor,
+    Constructor {
+        inputs: Measured<'a>,
+    },
     Field {
-        name: Spot,
-        kind: Measured,
+        name: &'a [u8],
+        kind: Measured<'a>,
     },
-    IllFormed,
 }
 
-// The end of the name whose record stands at a place; 0 where there is none.
-fn name_end(b: &[u8], at: usize) -> usize
-    requires { at ≤ length b.now }
-    ensures { NameEnds b.now at result }
+// The name that bytes begin with.
+fn name(b: &[u8]) -> Option<Piece<'_>>
+    ensures { NameIs b.now result }
 {
-    let t = &b[at..];
-    let n = record_length(t);
-    if n < 6 {
-        return 0;
+    let name = Piece::parse(b)?;
+    if name.kind == NAME && is_word(&b[HEAD..], name.body.len()) {
+        Some(name)
+    } else {
+        None
     }
-    if layout::get2(t, 4) == 0x11 {
-        if is_word(t, 6, n) {
-            return at + n;
-        }
-    }
-    0
 }
 
-// The list of a sort whose record stands at a place; its text has length 0 where there is none.
-fn list(b: &[u8], at: usize, sort: Sort) -> Measured
-    requires { at ≤ length b.now }
-    ensures { ListIs b.now at sort result }
-{
-    let t = &b[at..];
-    let n = record_length(t);
-    if n < 6 {
-        return missing();
-    }
-    if layout::get2(t, 4) == 0x12 {
-        return Measured {
-            from: at + 6,
-            to: at + n,
-            text: fields(&t[6..n], sort, 32),
-        };
-    }
-    missing()
+// A list, and the bytes behind it.
+#[derive(Clone, Copy, Debug, PartialEq, Eq)]
+struct Listed<'a> {
+    fields: Measured<'a>,
+    rest: &'a [u8],
 }
 
-// No list.
-fn missing() -> Measured
-    ensures { NoList result }
+// The list of a sort that bytes begin with.
+fn list(b: &[u8], sort: Sort) -> Option<Listed<'_>>
+    ensures { ListIs sort b.now result }
 {
-    Measured {
-        from: 0,
-        to: 0,
-        text: 0,
+    let list = Piece::parse(b)?;
+    if list.kind != LIST {
+        return None;
     }
+    Some(Listed {
+        fields: Measured {
+            bytes: list.body,
+            text: fields(list.body, sort, DEEPEST)?,
+        },
+        rest: list.rest,
+    })
 }
 
 // "function: mutability, 2 bytes (0 pure, 1 view, 2 none stated, 3 payable); name; inputs; outputs"
-fn function(b: &[u8]) -> Checked
-    requires { 6 ≤ length b.now }
-    ensures { Says b.now (function_from 4 (drop 6 b.now)) None result }
+#[tactic(auto, using(crate::proofs::Tops::tops))]
+fn function(body: &[u8]) -> Option<Checked<'_>>
+    requires { length body.now ≤ longest_record }
+    ensures { Says (function_from 4 body.now) None result }
 {
-    if b.len() < 8 {
-        return Checked::IllFormed;
+    let stated = stated(body)?;
+    let name = name(stated.rest)?;
+    let inputs = list(name.rest, Sort::Parameter)?;
+    let outputs = list(inputs.rest, Sort::Parameter)?;
+    if PAYABLE < stated.number || !outputs.rest.is_empty() {
+        return None;
     }
-    if 3 < layout::get2(b, 6) {
-        return Checked::IllFormed;
-    }
-    let p = name_end(b, 8);
-    if p == 0 {
-        return Checked::IllFormed;
-    }
-    let inputs = list(b, p, Sort::Parameter);
-    if inputs.text == 0 {
-        return Checked::IllFormed;
-    }
-    let outputs = list(b, inputs.to, Sort::Parameter);
-    if outputs.text == 0 {
-        return Checked::IllFormed;
-    }
-    if outputs.to == b.len() {
-        return Checked::Declared {
-            keyword: Keyword::Function,
-            name: Spot { from: 14, to: p },
-            inputs,
-            outputs,
-        };
-    }
-    Checked::IllFormed
+    Some(Checked::Declared {
+        keyword: Keyword::Function,
+        name: name.body,
+        inputs: inputs.fields,
+        outputs: Some(outputs.fields),
+    })
 }
 
 // "constructor: mutability (2 or 3); inputs"
-fn constructor(b: &[u8]) -> Checked
-    requires { 6 ≤ length b.now }
-    ensures { Says b.now (constructor_from 4 (drop 6 b.now)) None result }
+#[tactic(auto, using(crate::proofs::Tops::tops))]
+fn constructor(body: &[u8]) -> Option<Checked<'_>>
+    requires { length body.now ≤ longest_record }
+    ensures { Says (constructor_from 4 body.now) None result }
 {
-    if b.len() < 8 {
-        return Checked::IllFormed;
+    let stated = stated(body)?;
+    let inputs = list(stated.rest, Sort::Parameter)?;
+    if !matches!(stated.number, UNSTATED..=PAYABLE) || !inputs.rest.is_empty() {
+        return None;
     }
-    let m = layout::get2(b, 6);
-    if m < 2 {
-        return Checked::IllFormed;
-    }
-    if 3 < m {
-        return Checked::IllFormed;
-    }
-    let inputs = list(b, 8, Sort::Parameter);
-    if inputs.text == 0 {
-        return Checked::IllFormed;
-    }
-    if inputs.to == b.len() {
-        return Checked::Constructor;
-    }
-    Checked::IllFormed
+    Some(Checked::Constructor {
+        inputs: inputs.fields,
+    })
 }
 
 // "event: anonymous, 2 bytes (0 or 1); name; inputs"
-fn event(b: &[u8]) -> Checked
-    requires { 6 ≤ length b.now }
-    ensures { Says b.now (event_from 4 (drop 6 b.now)) None result }
+#[tactic(auto, using(crate::proofs::Tops::tops))]
+fn event(body: &[u8]) -> Option<Checked<'_>>
+    requires { length body.now ≤ longest_record }
+    ensures { Says (event_from 4 body.now) None result }
 {
-    if b.len() < 8 {
-        return Checked::IllFormed;
+    let anonymous = stated(body)?;
+    let name = name(anonymous.rest)?;
+    let inputs = list(name.rest, Sort::Event)?;
+    if ANONYMOUS < anonymous.number || !inputs.rest.is_empty() {
+        return None;
     }
-    if 1 < layout::get2(b, 6) {
-        return Checked::IllFormed;
-    }
-    let p = name_end(b, 8);
-    if p == 0 {
-        return Checked::IllFormed;
-    }
-    let inputs = list(b, p, Sort::Event);
-    if inputs.text == 0 {
-        return Checked::IllFormed;
-    }
-    if inputs.to == b.len() {
-        return Checked::Declared {
-            keyword: Keyword::Event,
-            name: Spot { from: 14, to: p },
-            inputs,
-            outputs: missing(),
-        };
-    }
-    Checked::IllFormed
+    Some(Checked::Declared {
+        keyword: Keyword::Event,
+        name: name.body,
+        inputs: inputs.fields,
+        outputs: None,
+    })
 }
 
 // "error: name; inputs"
-fn error(b: &[u8]) -> Checked
-    requires { 6 ≤ length b.now }
-    ensures { Says b.now (error_from 4 (drop 6 b.now)) None result }
+#[tactic(auto, using(crate::proofs::Tops::tops))]
+fn error(body: &[u8]) -> Option<Checked<'_>>
+    requires { length body.now ≤ longest_record }
+    ensures { Says (error_from 4 body.now) None result }
 {
-    let p = name_end(b, 6);
-    if p == 0 {
-        return Checked::IllFormed;
+    let name = name(body)?;
+    let inputs = list(name.rest, Sort::Plain)?;
+    if !inputs.rest.is_empty() {
+        return None;
     }
-    let inputs = list(b, p, Sort::Plain);
-    if inputs.text == 0 {
-        return Checked::IllFormed;
-    }
-    if inputs.to == b.len() {
-        return Checked::Declared {
-            keyword: Keyword::Error,
-            name: Spot { from: 12, to: p },
-            inputs,
-            outputs: missing(),
-        };
-    }
-    Checked::IllFormed
+    Some(Checked::Declared {
+        keyword: Keyword::Error,
+        name: name.body,
+        inputs: inputs.fields,
+        outputs: None,
+    })
 }
 
-// A field by itself, read as the one of a list.
-fn lone(b: &[u8]) -> Checked
-    requires { Alone 0x10 b.now }
-    ensures { Says b.now None (decode_field 4 Plain 0x10 (drop 6 b.now)) result }
+// A field by itself: of no declaration's own list.
+#[tactic(auto, using(crate::proofs::Whole::wholes))]
+fn lone(body: &[u8]) -> Option<Checked<'_>>
+    requires { length body.now ≤ longest_record }
+    ensures { Says None (decode_field 4 Plain 0x10 body.now) result }
 {
-    let n = fields(b, Sort::Plain, 32);
-    if n == 0 {
-        return Checked::IllFormed;
-    }
-    let q = 8 + layout::get4(b, 8);
-    Checked::Field {
-        name: Spot { from: 14, to: q },
+    let name = front(body, Sort::Plain)?;
+    let text = kind(name.rest, DEEPEST)?;
+    Some(Checked::Field {
+        name: name.body,
         kind: Measured {
-            from: q,
-            to: b.len(),
-            text: n - 2,
+            bytes: name.rest,
+            text,
         },
-    }
+    })
 }
 
-// What a record says, or that it is not well formed.
-pub fn check(b: &[u8]) -> Checked
-    ensures { Says b.now (decode b.now) (decode_lone b.now) result }
+// What a record says, if it is well formed.
+#[tactic(auto, using(crate::proofs::Whole::wholes))]
+pub fn check(b: &[u8]) -> Option<Checked<'_>>
+    ensures { Says (decode b.now) (decode_lone b.now) result }
 {
-    if 40960 < b.len() {
-        return Checked::IllFormed;
+    if LONGEST_RECORD < b.len() {
+        return None;
     }
-    let n = record_length(b);
-    if n < 6 {
-        return Checked::IllFormed;
+    let piece = Piece::parse(b)?;
+    if !piece.rest.is_empty() {
+        return None;
     }
-    if n < b.len() {
-        return Checked::IllFormed;
-    }
-    match layout::get2(b, 4) {
-        0x10 => lone(b),
-        0x20 => function(b),
-        0x21 => constructor(b),
-        0x22 => event(b),
-        0x23 => error(b),
-        _ => Checked::IllFormed,
+    match piece.kind {
+        FIELD => lone(piece.body),
+        FUNCTION => function(piece.body),
+        CONSTRUCTOR => constructor(piece.body),
+        EVENT => event(piece.body),
+        ERROR => error(piece.body),
+        _ => None,
     }
 }

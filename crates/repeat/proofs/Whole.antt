@@ -1,129 +1,46 @@
--- Whole declarations side by side: their keywords, names and lists.
+-- Whole declarations: where their records have what their canonical texts say, and two side by side.
 -- Assumes nothing.
-use mathlib.Core.Path.{◌≡◌, refl, sym, ◌∙◌, ap}
+use mathlib.Core.Path.{◌≡◌, refl, sym, ◌∙◌, ap, ap₂}
 use mathlib.Core.Logic.{◌↔◌}
 use mathlib.Core.Bool.{Bool, true, false, false≢true, cond}
 use mathlib.Core.List.{List, [], ◌∷◌, ◌++◌, append-nil}
-use Rattle.std.specs.Prelude.{None, Some}
-use Rattle.std.proofs.lemmas.Option.{same_Some}
-use Prim.Native.Nat.{ℕ, ◌+◌, ◌-◌, ◌^◌, ◌≤◌, ◌<◌}
+use Rattle.std.specs.Prelude.{None, Some, nat_eq}
+use Rattle.std.specs.Cmp.Lexicographic.{pointwise}
+use Rattle.std.proofs.lemmas.Option.{none-some, same_Some}
+use Rattle.std.proofs.lemmas.Slice.Eq.{bytes_eq-Decides}
+use Prim.Native.Nat.{ℕ, ◌≤◌, ◌<◌}
 use native.Mathlib.Omega.{arith}
 use lib.Dec.{leb, lit<}
-use lib.ListN.{length, take, drop, length-append, length-drop}
-use lib.Seq.{take_at, drop_at, drop-drop}
+use lib.ListN.{length, drop, length-drop}
+use lib.Seq.{drop_at}
 use borrow.Author.Tests.{leb-true}
 use Rattle.kinds.specs.Bytes.{same, is_word}
-use Rattle.kinds.specs.Kind.{Prototype, canonical}
-use Rattle.kinds.proofs.Logic.{left, right, same_equal}
+use Rattle.kinds.specs.Kind.{Kind, kind_text, canonical}
+use Rattle.kinds.proofs.Logic.{left, right}
 use Rattle.kinds.proofs.Joined.{canonical_injective}
 use Rattle.model.specs.declared.Sort.{Sort}
 use Rattle.model.specs.declared.Sort.TheVariants.{Plain, Parameter, Event}
 use Rattle.model.specs.declared.Keyword.TheVariants as key
-use Rattle.model.specs.Layout.{little_endian, le_value, record_of, piece, piece_of}
+use Rattle.model.specs.Layout.{little_endian, record_of, piece, piece_of}
 use Rattle.model.specs.Tree.{Fields, Declaration, kinds_of, name_kinds}
 use Rattle.model.specs.Reading.{deepest, keyword_text}
-use Rattle.model.specs.Record.{encode_name, encode_fields, encode_list, encode, are_fields, is_declaration, longest_record, well_formed, case, select}
+use Rattle.model.specs.Record.{encode_name, encode_fields, encode_list, encode, are_fields, is_declaration, longest_record, well_formed, case, select, on_option, decode_field, decode_fields}
 use Rattle.model.specs.Line.{keyword_in, canonical_text}
 use Rattle.model.specs.Sheet.{repeats}
 use Rattle.model.proofs.Bounds.{record_size}
 use Rattle.model.proofs.Pieces.{le_length, piece-read}
-use Rattle.model.proofs.Scans.{part-rest}
+use Rattle.model.proofs.Records.{inputs_spells}
 use Rattle.model.proofs.Sheets.{repeats-same}
-use Rattle.repeat.specs.Pairs.{ListIs, TwoLists, ListsSame, NamedIs, TwoNamed, NamedSame, name_at, RecordOf, Two, Repeats}
-use Rattle.repeat.proofs.Places.{length_at, kind_at, behind-head, body_at, rest_at, whole_length}
-use Rattle.repeat.proofs.Apart.{neither}
-
--- two tests that say the same
-pub alike : {A : Type 0} (r s : Bool) → (r ≡ true) ↔ A → (s ≡ true) ↔ A → r ≡ s
-alike true s f g = sym (g.1 (f.0 refl))
-alike false true f g = f.1 (g.0 refl)
-alike false false f g = refl
-
--- a name and a list: where they stand
-module _ (t nm : List ℕ) (fs : Fields) (h : NamedIs t nm fs) where
-  pub name-shape : t ≡ record_of 4 0x11 nm ++ (encode_list 4 fs ++ h.rest)
-  unfolding encode_name
-  name-shape = h.bytes
-
-  pub name-fits : 6 + length nm < 256 ^ 4
-  name-fits = omega (arith, h.small, ap length name-shape, length-append (record_of 4 0x11 nm) (encode_list 4 fs ++ h.rest), record_size 0x11 nm)
-
-  module _ (n : ℕ) (e : n ≡ le_value (take 4 (drop 0 t))) where
-    pub name-long : n ≡ 6 + length nm
-    name-long = e ∙ length_at 0x11 nm _ t name-shape name-fits
-
-    name-bytes : take n t ≡ encode_name 4 nm
-    unfolding encode_name
-    name-bytes = ap (take n) name-shape ∙ take_at (record_of 4 0x11 nm) _ n (record_size 0x11 nm ∙ sym name-long)
-
-    abbrev behind : List ℕ
-    behind = take (length t - n) (drop n t)
-
-    pub list-shape : behind ≡ record_of 4 0x12 (encode_fields 4 fs) ++ h.rest
-    unfolding encode_list
-    list-shape = part-rest t n ∙ rest_at 0x11 nm _ t name-shape name-fits n name-long
-
-    behind-long : length behind ≡ 6 + length (encode_fields 4 fs) + length h.rest
-    behind-long = ap length list-shape ∙ length-append (record_of 4 0x12 (encode_fields 4 fs)) h.rest ∙ rw record_size
-
-    pub name-inside : (6 ≤ n) × (n ≤ length t) × (6 ≤ length behind)
-    name-inside = omega (arith, name-long, behind-long, whole_length 0x11 nm _ t name-shape name-fits)
-
-    pub list-fits : 6 + length (encode_fields 4 fs) < 256 ^ 4
-    list-fits = omega (arith, h.small, behind-long, ap length (part-rest t n), length-drop n t)
-
-    module _ (p : ℕ) (f : p ≡ le_value (take 4 (drop 0 behind))) where
-      pub list-long : p ≡ 6 + length (encode_fields 4 fs)
-      list-long = f ∙ length_at 0x12 (encode_fields 4 fs) h.rest behind list-shape list-fits
-
-      pub list-is : ListIs (take (p - 6) (drop 6 behind)) fs
-      list-is =
-          let x = body_at 0x12 (encode_fields 4 fs) h.rest behind list-shape list-fits p list-long in
-          record { sort = h.sort; d = deepest; bytes = x; fields = h.fields; small = omega (arith, ap length x, h.small, behind-long, ap length (part-rest t n), length-drop n t) }
-
-      pub list_inside : (6 ≤ p) × (p ≤ length behind)
-      list_inside = omega (arith, list-long, behind-long)
-
--- names by their records
-names_same : (nm mm : List ℕ) → 6 + length nm < 256 ^ 4 → encode_name 4 nm ≡ encode_name 4 mm → nm ≡ mm
-unfolding encode_name
-names_same nm mm h e =
-    let l : length nm ≡ length mm = omega (arith, ap length e, record_size 0x11 nm, record_size 0x11 mm) in
-    let p : piece 0x11 nm [] ≡ piece 0x11 mm [] = sym (piece-read 4 0x11 nm [] (lit< tt) h) ∙ ap (λ x. piece_of 4 (x ++ [])) e ∙ piece-read 4 0x11 mm [] (lit< tt) (omega arith) in
-    cc
-
-module _ (a b : List ℕ) where
-  pub named-low : TwoNamed a b → (6 ≤ length a) × (6 ≤ length b)
-  named-low p = omega (arith, name-inside a _ _ p.one _ refl, name-inside b _ _ p.other _ refl)
-
-  module _ (n m : ℕ) (e : n ≡ le_value (take 4 (drop 0 a))) (f : m ≡ le_value (take 4 (drop 0 b))) where
-    pub named-inside : TwoNamed a b → (n ≤ length a) × (m ≤ length b) × (6 ≤ length (take (length a - n) (drop n a))) × (6 ≤ length (take (length b - m) (drop m b)))
-    named-inside p = omega (arith, name-inside a _ _ p.one n e, name-inside b _ _ p.other m f)
-
-    module _ (s : Bool) (w : s ≡ same (take n a) (take m b)) where
-      names : (p : TwoNamed a b) → (s ≡ true) ↔ (p.name ≡ p.name₁)
-      names p =
-          let x = name-bytes a _ _ p.one n e in
-          let y = name-bytes b _ _ p.other m f in (
-            λ o. names_same p.name p.name₁ (name-fits a _ _ p.one) (sym x ∙ (same_equal _ _).0 (sym w ∙ o) ∙ y),
-            λ o. w ∙ (same_equal _ _).1 (x ∙ ap (encode_name 4) o ∙ sym y),
-          )
-
-      pub named_differ : s ≡ false → NamedSame a b false
-      named_differ o p = neither (λ q. false≢true (sym o ∙ (names p).1 q.0))
-
-      module _ (x y : ℕ) (g : x ≡ le_value (take 4 (drop 0 (take (length a - n) (drop n a))))) (h : y ≡ le_value (take 4 (drop 0 (take (length b - m) (drop m b))))) where
-        pub named-lengths : TwoNamed a b → (6 ≤ x) × (x ≤ length (take (length a - n) (drop n a))) × (6 ≤ y) × (y ≤ length (take (length b - m) (drop m b)))
-        named-lengths p = omega (arith, list_inside a _ _ p.one n e x g, list_inside b _ _ p.other m f y h)
-
-        pub named-asks : TwoNamed a b → TwoLists (take (x - 6) (drop 6 (take (length a - n) (drop n a)))) (take (y - 6) (drop 6 (take (length b - m) (drop m b))))
-        named-asks p = record { fields = p.fields; one = list-is a _ _ p.one n e x g; fields₁ = p.fields₁; other = list-is b _ _ p.other m f y h }
-
-        pub named-then : (r : Bool) → s ≡ true → ListsSame (take (x - 6) (drop 6 (take (length a - n) (drop n a)))) (take (y - 6) (drop 6 (take (length b - m) (drop m b)))) r → NamedSame a b r
-        unfolding named-asks
-        named-then r o v p =
-            let q : (r ≡ true) ↔ (kinds_of p.fields ≡ kinds_of p.fields₁) = v (named-asks p) in
-            (λ z. ((names p).0 o, q.0 z), λ z. q.1 z.1)
+use Rattle.record.specs.declared.Piece.{Piece}
+use Rattle.record.specs.Parts.{Headed, PieceIs}
+use Rattle.record.specs.Encoded.{SomeFields}
+use Rattle.record.specs.Texts.{fields_from, tuple_text_from}
+use Rattle.record.proofs.Standing.{Stands, stands, stands_headed}
+use Rattle.abi.specs.Writes.{line_from}
+use Rattle.repeat.specs.declared.Line.{Line}
+use Rattle.repeat.specs.Pairs.{ListsSame, RecordOf, Two, Repeats}
+use Rattle.repeat.specs.Prints.{OneRecord}
+use Rattle.repeat.specs.Said.{NameSaid, NameIs, LineSaid, LineIs}
 
 -- the number of a declaration's record, and its body
 unfoldable pub code_in : Declaration → ℕ
@@ -132,7 +49,7 @@ code_in (Declaration.constructor m ins) = 0x21
 code_in (Declaration.event x nm ins) = 0x22
 code_in (Declaration.error nm ins) = 0x23
 
-body_in : Declaration → List ℕ
+unfoldable pub body_in : Declaration → List ℕ
 body_in (Declaration.function m nm ins outs) = little_endian 2 m ++ (encode_name 4 nm ++ (encode_list 4 ins ++ encode_list 4 outs))
 body_in (Declaration.constructor m ins) = little_endian 2 m ++ encode_list 4 ins
 body_in (Declaration.event x nm ins) = little_endian 2 x ++ (encode_name 4 nm ++ encode_list 4 ins)
@@ -152,65 +69,152 @@ code-small (Declaration.constructor m ins) = lit< tt
 code-small (Declaration.event x nm ins) = lit< tt
 code-small (Declaration.error nm ins) = lit< tt
 
-name-size : (nm : List ℕ) → length (encode_name 4 nm) ≡ 6 + length nm
-unfolding encode_name
-name-size nm = record_size 0x11 nm
+-- the bytes b begin with the name and the list of d
+record Behind (d : Declaration) (b : List ℕ) : Type 0 where
+  name : List ℕ
+  fields : Fields
+  sort : Sort
+  rest : List ℕ
+  bytes : b ≡ record_of 4 0x11 name ++ (encode_list 4 fields ++ rest)
+  well : are_fields sort deepest fields ≡ true
+  word : is_word name ≡ true
+  text : canonical_text d ≡ Some (canonical (record { name = name; kinds = kinds_of fields }))
 
-list-size : (fs : Fields) → length (encode_list 4 fs) ≡ 6 + length (encode_fields 4 fs)
-unfolding encode_list
-list-size fs = record_size 0x12 (encode_fields 4 fs)
+last-list : (nm : List ℕ) (fs : Fields) → encode_name 4 nm ++ encode_list 4 fs ≡ encode_name 4 nm ++ (encode_list 4 fs ++ [])
+last-list nm fs = ap (λ u. encode_name 4 nm ++ u) (sym (append-nil (encode_list 4 fs)))
 
-body-long : (d : Declaration) → 8 ≤ length (body_in d)
-unfolding body_in
-body-long (Declaration.function m nm ins outs) = simp (length-append, le_length, name-size, list-size) (omega arith)
-body-long (Declaration.constructor m ins) = simp (length-append, le_length, list-size) (omega arith)
-body-long (Declaration.event x nm ins) = simp (length-append, le_length, name-size, list-size) (omega arith)
-body-long (Declaration.error nm ins) = simp (length-append, name-size, list-size) (omega arith)
+behind_error : (d : Declaration) → is_declaration d ≡ true → code_in d ≡ 0x23 → Behind d (body_in d)
+unfolding code_in body_in is_declaration canonical_text name_kinds encode_name
+behind_error (Declaration.function m nm ins outs) g z = absurd (omega arith)
+behind_error (Declaration.constructor m ins) g z = absurd (omega arith)
+behind_error (Declaration.event x nm ins) g z = absurd (omega arith)
+behind_error (Declaration.error nm ins) g z = record { name = nm; fields = ins; sort = Plain; rest = []; bytes = last-list nm ins; well = right (is_word nm) g; word = left _ g; text = refl }
 
+behind_number : (d : Declaration) → is_declaration d ≡ true → (code_in d ≡ 0x21 → ⊥) → (code_in d ≡ 0x23 → ⊥) → Behind d (drop 2 (body_in d))
+unfolding code_in body_in is_declaration canonical_text name_kinds encode_name
+behind_number (Declaration.function m nm ins outs) g y z =
+    let h = right (leb m 3) g in
+    record { name = nm; fields = ins; sort = Parameter; rest = encode_list 4 outs; bytes = drop_at (little_endian 2 m) _ 2 (le_length 2 m); well = left (are_fields Parameter deepest outs) (right (is_word nm) h); word = left _ h; text = refl }
+behind_number (Declaration.constructor m ins) g y z = absurd (y refl)
+behind_number (Declaration.event x nm ins) g y z =
+    let h = right (leb x 1) g in
+    record { name = nm; fields = ins; sort = Event; rest = []; bytes = drop_at (little_endian 2 x) _ 2 (le_length 2 x) ∙ last-list nm ins; well = right (is_word nm) h; word = left _ h; text = refl }
+behind_number (Declaration.error nm ins) g y z = absurd (z refl)
+
+constructor-none : (d : Declaration) → code_in d ≡ 0x21 → canonical_text d ≡ None
+unfolding code_in canonical_text name_kinds
+constructor-none (Declaration.function m nm ins outs) z = absurd (omega arith)
+constructor-none (Declaration.constructor m ins) z = refl
+constructor-none (Declaration.event x nm ins) z = absurd (omega arith)
+constructor-none (Declaration.error nm ins) z = absurd (omega arith)
+
+module _ (d : Declaration) (b : List ℕ) (h : Behind d b) (l : length b ≤ longest_record) where
+  behind-headed : Headed b
+  behind-headed = stands_headed b 0x11 h.name _ h.bytes (lit< tt) l
+
+  behind-said : (n : Piece) → PieceIs b (Some n) → NameSaid d n
+  behind-said n i =
+      let s = stands b 0x11 h.name _ h.bytes (lit< tt) l n i in
+      record { fields = h.fields; sort = h.sort; rest = h.rest; behind = s.rest-is; small = omega (arith, i.covers, l); well = h.well; word = rw s.body_is h.word; text = rw s.body_is h.text }
+
+-- a declaration's record
 module _ (t : List ℕ) (d : Declaration) (h : RecordOf t d) where
-  short : length t ≤ longest_record
+  pub short : length t ≤ longest_record
   unfolding well_formed
   short = omega (arith, ap length h.bytes, leb-true (length (encode 4 d)) longest_record (right (is_declaration d) h.well))
 
   shape : t ≡ record_of 4 (code_in d) (body_in d) ++ []
   shape = h.bytes ∙ coded_so d ∙ sym (append-nil _)
 
-  long : length t ≡ 6 + length (body_in d)
-  long = ap length (h.bytes ∙ coded_so d) ∙ record_size (code_in d) (body_in d)
-
-  body-fits : 6 + length (body_in d) < 256 ^ 4
-  body-fits = omega (arith, short, long)
-
-  pub code_is : le_value (take 2 (drop 4 t)) ≡ code_in d
-  code_is = kind_at (code_in d) (body_in d) [] t shape body-fits (code-small d)
-
-  body_is : drop 6 t ≡ body_in d
-  body_is = behind-head (code_in d) (body_in d) [] t shape body-fits ∙ append-nil (body_in d)
-
-  -- behind a number of two bytes
-  behind-number : (v : ℕ) (u : List ℕ) → body_in d ≡ little_endian 2 v ++ u → drop 8 t ≡ u
-  behind-number v u e = sym (drop-drop 2 6 t) ∙ ap (drop 2) (body_is ∙ e) ∙ drop_at (little_endian 2 v) u 2 (le_length 2 v)
-
   valid : is_declaration d ≡ true
   unfolding well_formed
   valid = left (leb (length (encode 4 d)) longest_record) h.well
 
-pub record_long : (t : List ℕ) (d : Declaration) → RecordOf t d → 8 ≤ length t
-record_long t d h = omega (arith, long t d h, body-long d)
+  pub record-headed : Headed t
+  record-headed = stands_headed t (code_in d) (body_in d) [] shape (code-small d) short
 
--- a declaration's record with anything behind it
-module _ (d : Declaration) (g : well_formed d ≡ true) (r t : List ℕ) (e : t ≡ encode 4 d ++ r) where
-  shape-before : t ≡ record_of 4 (code_in d) (body_in d) ++ r
-  shape-before = e ∙ ap (λ u. u ++ r) (coded_so d)
+  module _ (x : Piece) (i : PieceIs t (Some x)) where
+    pub record_parts : Stands x (code_in d) (body_in d) []
+    record_parts = stands t (code_in d) (body_in d) [] shape (code-small d) short x i
 
-  fits-before : 6 + length (body_in d) < 256 ^ 4
-  fits-before = body-fits (encode 4 d) d (record { bytes = refl; well = g })
+    body-short : length x.body.now ≤ longest_record
+    body-short = omega (arith, i.covers, short)
 
-  pub length_before : le_value (take 4 (drop 0 t)) ≡ length (encode 4 d)
-  length_before = length_at (code_in d) (body_in d) r t shape-before fits-before ∙ sym (long (encode 4 d) d (record { bytes = refl; well = g }))
+    in-error : x.kind ≡ 0x23 → Behind d x.body.now
+    in-error z = rw record_parts.body_is (behind_error d valid (sym record_parts.kind ∙ z))
 
-  pub kind-before : le_value (take 2 (drop 4 t)) ≡ code_in d
-  kind-before = kind_at (code_in d) (body_in d) r t shape-before fits-before (code-small d)
+    in-others : (x.kind ≡ 0x21 → ⊥) → (x.kind ≡ 0x23 → ⊥) → Behind d (drop 2 x.body.now)
+    in-others y z = rw record_parts.body_is (behind_number d valid (λ q. y (record_parts.kind ∙ q)) (λ q. z (record_parts.kind ∙ q)))
+
+pub record-long : (d : Declaration) (t : List ℕ) → RecordOf t d → 6 ≤ length t
+record-long d t h = omega (arith, ap length (h.bytes ∙ coded_so d), record_size (code_in d) (body_in d))
+
+-- the same with anything behind it
+pub begins : (d : Declaration) → well_formed d ≡ true → (r t : List ℕ) → t ≡ encode 4 d ++ r → piece_of 4 t ≡ piece (code_in d) (body_in d) r
+begins d g r t e =
+    let s = short (encode 4 d) d (record { bytes = refl; well = g }) in
+    ap (piece_of 4) (e ∙ ap (λ u. u ++ r) (coded_so d)) ∙ piece-read 4 (code_in d) (body_in d) r (code-small d) (omega (arith, s, ap length (coded_so d), record_size (code_in d) (body_in d)))
+
+module _ (t : List ℕ) (p : OneRecord t) where
+  pub one_headed : Headed t
+  one_headed = record-headed t p.declaration p.one
+
+  module _ (x : Piece) (i : PieceIs t (Some x)) where
+    pub error-headed : x.kind ≡ 0x23 → Headed x.body.now
+    error-headed z = behind-headed p.declaration x.body.now (in-error t p.declaration p.one x i z) (body-short t p.declaration p.one x i)
+
+    others_short : length (drop 2 x.body.now) ≤ longest_record
+    others_short = omega (arith, length-drop 2 x.body.now, body-short t p.declaration p.one x i)
+
+    pub others-headed : (x.kind ≡ 0x21 → ⊥) → (x.kind ≡ 0x23 → ⊥) → (2 ≤ length x.body.now) × Headed (drop 2 x.body.now)
+    others-headed y z =
+        let h = behind-headed p.declaration (drop 2 x.body.now) (in-others t p.declaration p.one x i y z) others_short in
+        (omega (arith, h.low, h.inside, length-drop 2 x.body.now), h)
+
+module _ (t : List ℕ) (x : Piece) (i : PieceIs t (Some x)) where
+  pub name-none : x.kind ≡ 0x21 → NameIs t None
+  name-none z p = constructor-none p.declaration (sym (record_parts t p.declaration p.one x i).kind ∙ z)
+
+  pub name-error : (n : Piece) → x.kind ≡ 0x23 → PieceIs x.body.now (Some n) → NameIs t (Some n)
+  name-error n z j p = behind-said p.declaration x.body.now (in-error t p.declaration p.one x i z) (body-short t p.declaration p.one x i) n j
+
+  pub name-others : (n : Piece) → (x.kind ≡ 0x21 → ⊥) → (x.kind ≡ 0x23 → ⊥) → PieceIs (drop 2 x.body.now) (Some n) → NameIs t (Some n)
+  name-others n y z j p = behind-said p.declaration (drop 2 x.body.now) (in-others t p.declaration p.one x i y z) (others_short t p x i) n j
+
+pub ruleset naming = (one_headed, error-headed, others-headed, name-none, name-error, name-others)
+
+-- the fields of the list behind a name
+module _ (d : Declaration) (n : Piece) (h : NameSaid d n) where
+  list-shape : n.rest.now ≡ record_of 4 0x12 (encode_fields 4 h.fields) ++ h.rest
+  unfolding encode_list
+  list-shape = h.behind
+
+  pub list-headed : Headed n.rest.now
+  list-headed = stands_headed n.rest.now 0x12 (encode_fields 4 h.fields) h.rest list-shape (lit< tt) h.small
+
+  pub line-said : (m : Piece) (l : Line) → PieceIs n.rest.now (Some m) → l.name.now ≡ n.body.now → l.fields.now ≡ m.body.now → LineSaid d l
+  unfolding tuple_text_from fields_from decode_fields decode_field line_from canonical
+  line-said m l i e f =
+      let s = stands n.rest.now 0x12 (encode_fields 4 h.fields) h.rest list-shape (lit< tt) h.small m i in
+      let b : l.fields.now ≡ encode_fields 4 h.fields = f ∙ s.body_is in
+      let small : length l.fields.now ≤ longest_record = omega (arith, ap length f, i.covers, h.small) in
+      let read : decode_fields 4 h.sort l.fields.now ≡ Some h.fields = ap (decode_fields 4 h.sort) b ∙ (inputs_spells 4 h.sort).to h.fields h.well (omega (arith, small, ap length b)) in
+      let kinds : tuple_text_from h.sort deepest l.fields.now ≡ Some (kind_text (Kind.tuple (kinds_of h.fields))) = ap (on_option (λ fs. kind_text (Kind.tuple (kinds_of fs)))) read in
+      record {
+        fields = h.fields;
+        listed = record { same = b; small = small; sort = h.sort; d = deepest; well = h.well };
+        word = rw e h.word;
+        text = rw e h.text;
+        sort = h.sort;
+        same = ap (on_option (λ u. l.name.now ++ u)) kinds ∙ ap (λ nm. Some (canonical (record { name = nm; kinds = kinds_of h.fields }))) e ∙ sym h.text;
+      }
+
+module _ (t : List ℕ) where
+  pub line-headed : (p : OneRecord t) (n : Piece) → NameIs t (Some n) → Headed n.rest.now
+  line-headed p n h = list-headed p.declaration n (h p)
+
+  pub line_is : (n m : Piece) (l : Line) → NameIs t (Some n) → PieceIs n.rest.now (Some m) → l.name.now ≡ n.body.now → l.fields.now ≡ m.body.now → LineIs t (Some l)
+  line_is n m l h i e f p = line-said p.declaration n (h p) m l i e f
 
 -- the word that a declaration begins with, by the number of its record, and the number by the word
 word_by : ℕ → List ℕ
@@ -233,96 +237,66 @@ code_by_lem (Declaration.constructor m ins) = refl
 code_by_lem (Declaration.event x nm ins) = refl
 code_by_lem (Declaration.error nm ins) = refl
 
--- a declaration with a name: the name and the list behind n bytes of its record, and its canonical text
-pub record Named (n : ℕ) (t : List ℕ) (d : Declaration) : Type 0 where
-  pub name : List ℕ
-  pub fields : Fields
-  pub is : NamedIs (take (length t - n) (drop n t)) name fields
-  pub word : is_word name ≡ true
-  pub text : canonical_text d ≡ Some (canonical (record { name = name; kinds = kinds_of fields }))
+-- two tests that say the same
+pub alike : {A : Type 0} (r s : Bool) → (r ≡ true) ↔ A → (s ≡ true) ↔ A → r ≡ s
+alike true s f g = sym (g.1 (f.0 refl))
+alike false true f g = f.1 (g.0 refl)
+alike false false f g = refl
 
-module _ (t : List ℕ) (d : Declaration) (h : RecordOf t d) (n : ℕ) (nm : List ℕ) (fs : Fields) (sort : Sort) (r : List ℕ) where
-  named-is : drop n t ≡ encode_name 4 nm ++ (encode_list 4 fs ++ r) → are_fields sort deepest fs ≡ true → NamedIs (take (length t - n) (drop n t)) nm fs
-  named-is e g = record { rest = r; sort = sort; bytes = part-rest t n ∙ e; fields = g; small = omega (arith, short t d h, ap length (part-rest t n), length-drop n t) }
+module _ (a b : List ℕ) (x y : Piece) (i : PieceIs a (Some x)) (j : PieceIs b (Some y)) where
+  pub two-unlike : (x.kind ≡ y.kind → ⊥) → Repeats a b false
+  two-unlike z p = go (repeats p.declaration p.declaration₁) refl
+    where
+      go : (r : Bool) → repeats p.declaration p.declaration₁ ≡ r → false ≡ repeats p.declaration p.declaration₁
+      go true q = absurd (z ((record_parts a _ p.one x i).kind ∙ code_by_lem p.declaration ∙ ap code_by ((repeats-same _ _).0 q).0 ∙ sym (code_by_lem p.declaration₁) ∙ sym (record_parts b _ p.other y j).kind))
+      go false q = sym q
 
-last-list : (nm : List ℕ) (fs : Fields) → encode_name 4 nm ++ encode_list 4 fs ≡ encode_name 4 nm ++ (encode_list 4 fs ++ [])
-last-list nm fs = ap (λ u. encode_name 4 nm ++ u) (sym (append-nil (encode_list 4 fs)))
+  -- of one keyword the texts tell
+  module _ (z : x.kind ≡ y.kind) (p : Two a b) where
+    texts-tell : (r : Bool) → (r ≡ true) ↔ (canonical_text p.declaration ≡ canonical_text p.declaration₁) → r ≡ repeats p.declaration p.declaration₁
+    texts-tell r f =
+        let codes : code_in p.declaration ≡ code_in p.declaration₁ = sym (record_parts a _ p.one x i).kind ∙ z ∙ (record_parts b _ p.other y j).kind in
+        let same = repeats-same p.declaration p.declaration₁ in
+        alike r _ f (λ h. (same.0 h).1, λ h. same.1 (word-by p.declaration ∙ ap word_by codes ∙ sym (word-by p.declaration₁), h))
 
-pub named-at : (t : List ℕ) (d : Declaration) → RecordOf t d → (code_in d ≡ 0x21 → ⊥) → Named (name_at (code_in d)) t d
-unfolding code_in body_in is_declaration canonical_text name_kinds
-named-at t (Declaration.function m nm ins outs) h z =
-    let d = Declaration.function m nm ins outs in
-    let g = right (leb m 3) (valid t d h) in
-    record { name = nm; fields = ins; is = named-is t d h 8 nm ins Parameter (encode_list 4 outs) (behind-number t d h m _ refl) (left (are_fields Parameter deepest outs) (right (is_word nm) g)); word = left _ g; text = refl }
-named-at t (Declaration.constructor m ins) h z = absurd (z refl)
-named-at t (Declaration.event x nm ins) h z =
-    let d = Declaration.event x nm ins in
-    let g = right (leb x 1) (valid t d h) in
-    record { name = nm; fields = ins; is = named-is t d h 8 nm ins Event [] (behind-number t d h x _ refl ∙ last-list nm ins) (right (is_word nm) g); word = left _ g; text = refl }
-named-at t (Declaration.error nm ins) h z =
-    let d = Declaration.error nm ins in
-    record { name = nm; fields = ins; is = named-is t d h 6 nm ins Plain [] (body_is t d h ∙ last-list nm ins) (right (is_word nm) (valid t d h)); word = left _ (valid t d h); text = refl }
+    abbrev one : OneRecord a
+    one = record { declaration = p.declaration; one = p.one }
 
-pub constructor-none : (d : Declaration) → code_in d ≡ 0x21 → canonical_text d ≡ None
-unfolding code_in canonical_text name_kinds
-constructor-none (Declaration.function m nm ins outs) z = absurd (omega arith)
-constructor-none (Declaration.constructor m ins) z = refl
-constructor-none (Declaration.event x nm ins) z = absurd (omega arith)
-constructor-none (Declaration.error nm ins) z = absurd (omega arith)
+    abbrev other : OneRecord b
+    other = record { declaration = p.declaration₁; one = p.other }
 
--- declarations of one keyword repeat each other exactly where their names and kinds are the same
-module _ (n : ℕ) (a b : List ℕ) (d c : Declaration) (i : Named n a d) (j : Named n b c) where
-  abbrev two-named : TwoNamed (take (length a - n) (drop n a)) (take (length b - n) (drop n b))
-  two-named = record { name = i.name; fields = i.fields; one = i.is; name₁ = j.name; fields₁ = j.fields; other = j.is }
+  module _ (z : x.kind ≡ y.kind) where
+    pub two-none : LineIs a None → LineIs b None → Repeats a b true
+    two-none f g p = texts-tell z p true (λ _. f (one z p) ∙ sym (g (other z p)), λ _. refl)
 
-  named-repeats : code_in d ≡ code_in c → (r : Bool) → NamedSame (take (length a - n) (drop n a)) (take (length b - n) (drop n b)) r → r ≡ repeats d c
-  named-repeats e r w =
-      alike r (repeats d c) (w two-named) (
-        λ h.
-            let q = same_Some _ _ (sym i.text ∙ ((repeats-same d c).0 h).1 ∙ j.text) in
-            let p = canonical_injective _ _ i.word j.word q in
-            (ap (λ x. x.name) p, ap (λ x. x.kinds) p),
-        λ h.
-            let p : ◌≡◌ {A = Prototype} (record { name = i.name; kinds = kinds_of i.fields }) (record { name = j.name; kinds = kinds_of j.fields }) = rw (h.0, h.1) in
-            (repeats-same d c).1 (word-by d ∙ ap word_by e ∙ sym (word-by c), i.text ∙ ap (λ x. Some (canonical x)) p ∙ sym j.text),
-      )
+    pub one-none : (l : Line) → LineIs a (Some l) → LineIs b None → Repeats a b false
+    one-none l f g p = texts-tell z p false (λ h. absurd (false≢true h), λ h. absurd (none-some _ (sym (g (other z p)) ∙ sym h ∙ (f (one z p)).text)))
 
-module _ (a b : List ℕ) where
-  pub two-long : Two a b → (8 ≤ length a) × (8 ≤ length b)
-  two-long p = (record_long a _ p.one, record_long b _ p.other)
+    pub other-none : (m : Line) → LineIs a None → LineIs b (Some m) → Repeats a b false
+    other-none m f g p = texts-tell z p false (λ h. absurd (false≢true h), λ h. absurd (none-some _ (sym (f (one z p)) ∙ h ∙ (g (other z p)).text)))
 
-  module _ (k l : ℕ) (e : k ≡ le_value (take 2 (drop 4 a))) (f : l ≡ le_value (take 2 (drop 4 b))) where
-    one-is : (p : Two a b) → k ≡ code_in p.declaration
-    one-is p = e ∙ code_is a _ p.one
+    module _ (l m : Line) (f : LineIs a (Some l)) (g : LineIs b (Some m)) where
+      lines : (p : Two a b) → ((l.name.now ≡ m.name.now) × (kinds_of (f (one z p)).fields ≡ kinds_of (g (other z p)).fields)) ↔ (canonical_text p.declaration ≡ canonical_text p.declaration₁)
+      lines p =
+          let u = f (one z p) in
+          let v = g (other z p) in (
+            λ h. u.text ∙ ap₂ (λ nm ks. Some (canonical (record { name = nm; kinds = ks }))) h.0 h.1 ∙ sym v.text,
+            λ h.
+                let e = canonical_injective _ _ u.word v.word (same_Some _ _ (sym u.text ∙ h ∙ v.text)) in
+                (ap (λ w. w.name) e, ap (λ w. w.kinds) e),
+          )
 
-    other-is : (p : Two a b) → l ≡ code_in p.declaration₁
-    other-is p = f ∙ code_is b _ p.other
+      pub lines-ask : Two a b → SomeFields l.fields.now × SomeFields m.fields.now
+      lines-ask p = let u = f (one z p) in let v = g (other z p) in ((u.fields, u.listed), (v.fields, v.listed))
 
-    pub two-unlike : (k ≡ l → ⊥) → Repeats a b false
-    two-unlike z p = go (repeats p.declaration p.declaration₁) refl
-      where
-        go : (r : Bool) → repeats p.declaration p.declaration₁ ≡ r → false ≡ repeats p.declaration p.declaration₁
-        go true q = absurd (z (one-is p ∙ code_by_lem p.declaration ∙ ap code_by ((repeats-same _ _).0 q).0 ∙ sym (code_by_lem p.declaration₁) ∙ sym (other-is p)))
-        go false q = sym q
+      pub names-differ : (s : Bool) → s ≡ pointwise nat_eq l.name.now m.name.now → s ≡ false → Repeats a b s
+      names-differ s e o p = texts-tell z p s (λ h. absurd (false≢true (sym o ∙ h)), λ h. e ∙ (bytes_eq-Decides _ _).1 ((lines p).1 h).0)
 
-    module _ (g : k ≡ l) where
-      codes : (p : Two a b) → code_in p.declaration ≡ code_in p.declaration₁
-      codes p = sym (one-is p) ∙ g ∙ other-is p
+      pub lists-tell : (s : Bool) → s ≡ pointwise nat_eq l.name.now m.name.now → s ≡ true → (r : Bool) → ListsSame l.fields.now m.fields.now r → Repeats a b r
+      lists-tell s e o r w p =
+          let u = f (one z p) in
+          let v = g (other z p) in
+          let c = w.told u.fields v.fields u.listed v.listed in
+          texts-tell z p r (λ h. (lines p).0 ((bytes_eq-Decides _ _).0 (sym e ∙ o), c.0 h), λ h. c.1 ((lines p).1 h).1)
 
-      pub two_constructors : k ≡ 0x21 → Repeats a b true
-      two_constructors z p =
-          let c : code_in p.declaration ≡ 0x21 = sym (one-is p) ∙ z in
-          sym ((repeats-same _ _).1 (word-by p.declaration ∙ ap word_by (codes p) ∙ sym (word-by p.declaration₁), constructor-none p.declaration c ∙ sym (constructor-none p.declaration₁ (sym (codes p) ∙ c))))
-
-      module _ (y : k ≡ 0x21 → ⊥) (at : ℕ) (z : at ≡ name_at k) where
-        one-named : (p : Two a b) → Named at a p.declaration
-        one-named p = rw (z, one-is p) (named-at a p.declaration p.one (λ q. y (one-is p ∙ q)))
-
-        other-named : (p : Two a b) → Named at b p.declaration₁
-        other-named p = rw (z, g, other-is p) (named-at b p.declaration₁ p.other (λ q. y (g ∙ other-is p ∙ q)))
-
-        pub pair_asks : Two a b → TwoNamed (take (length a - at) (drop at a)) (take (length b - at) (drop at b))
-        pair_asks p = two-named at a b _ _ (one-named p) (other-named p)
-
-        pub pair_then : (r : Bool) → NamedSame (take (length a - at) (drop at a)) (take (length b - at) (drop at b)) r → Repeats a b r
-        pair_then r w p = named-repeats at a b _ _ (one-named p) (other-named p) (codes p) r w
+pub ruleset comparing = (two-unlike, two-none, one-none, other-none, names-differ, lists-tell)

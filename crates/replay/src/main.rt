@@ -10,6 +10,7 @@ use layout::{CONSTRUCTOR, FUNCTION, HEAD, KIND, NUMBERED};
 use model::{Answer, Call, Mark, Refusal, Refused};
 use std::io;
 use std::io::Read;
+use tables::Asked;
 
 // How many of the differing rows are named.
 const NAMED: u64 = 10;
@@ -26,13 +27,6 @@ const LINE: usize = 81920;
 const MESSAGE: usize = 256;
 
 type Text = ArrayVec<u8, TEXT>;
-
-// A call of the list.
-#[derive(Clone, Copy, Debug, PartialEq, Eq)]
-enum Asked {
-    Declaration(Call),
-    Kind,
-}
 
 // How many rows of a call agree and how many differ.
 #[derive(Clone, Copy, Debug, Default, PartialEq, Eq)]
@@ -165,7 +159,7 @@ fn forget_mark(b: &mut [u8], at: usize)
     }
 }
 
-// The same for the fields from a place up to an end. Each step is as long as the record that stands there.
+// The same for the fields from a place up to an end: a loop, since each step is as long as the record that stands there.
 fn forget_marks(b: &mut [u8], from: usize, end: usize)
     requires { end ≤ length b.old }
 {
@@ -227,13 +221,6 @@ fn is_record(hex: &[u8], record: &[u8]) -> bool {
 
 // Rows.
 
-fn asked_by(name: &[u8]) -> Option<Asked> {
-    if name == b"kind".as_slice() {
-        return Some(Asked::Kind);
-    }
-    tables::call_of(name).map(Asked::Declaration)
-}
-
 // Whether a field says what a call writes of a record, or that there is none, which is refusal 16.
 fn says_line<A: FnOnce(&[u8], &mut [u8]) -> Answer>(field: &[u8], record: &[u8], line: A) -> bool
     requires { A.IsAlwaysCallable line }
@@ -294,17 +281,10 @@ fn says_refusal(row: &[u8], asked: Asked, text: &[u8], refused: Refused) -> bool
         && is_number(tables::field(row, 4), refused.position as u64)
 }
 
-fn ask(asked: Asked, text: &[u8], record: &mut [u8]) -> Answer {
-    match asked {
-        Asked::Declaration(call) => declaration::read(call, text, record),
-        Asked::Kind => kind_call::parse_kind(text, record),
-    }
-}
-
 // Whether a call answers a text as the row says.
 fn agrees(row: &[u8], asked: Asked, text: &[u8]) -> bool {
     let mut record = [0; RECORD];
-    match ask(asked, text, &mut record) {
+    match tables::ask(asked, text, &mut record) {
         Ok(length) => record
             .get(..length)
             .is_some_and(|record| says_record(row, asked, record)),
@@ -314,7 +294,7 @@ fn agrees(row: &[u8], asked: Asked, text: &[u8]) -> bool {
 
 // A text that is not decoded whole differs.
 fn replay_row<P: Print>(rt: &P, counts: &mut Counts, row: &[u8]) -> io::Result<()> {
-    let asked = asked_by(tables::field(row, 0));
+    let asked = tables::asked_by(tables::field(row, 0));
     let hex = tables::field(row, 1);
     let text: Text = tables::bytes_of(hex);
     let same = match asked {

@@ -1,20 +1,14 @@
--- What the writers leave, and the parts of the line.
+-- The parts of the line.
 -- Assumes nothing.
-use Rattle.std.specs.Prelude.{◌≡◌, List, [], ◌++◌, ℕ, ◌+◌, length, Option, None, Some}
+use Rattle.std.specs.Prelude.{List, [], ◌++◌, ℕ, length, Option, None, Some}
 use Rattle.kinds.specs.Bytes.{ascii}
 use Rattle.kinds.specs.Decimal.{decimal}
-use Rattle.layout.specs.Buffer.{put}
 use Rattle.model.specs.declared.Keyword.{Keyword}
 use Rattle.model.specs.Tree.{Declaration}
 use Rattle.model.specs.Reading.{keyword_text}
 use Rattle.model.specs.Record.{decode}
 use Rattle.model.specs.Line.{keyword_in, canonical_text}
 use Rattle.model.specs.Deposit.{or_dash}
-
--- the bytes u are put in at o, and r is the place behind them
-pub record Put (o : ℕ) (u b b₁ : List ℕ) (r : ℕ) : Type 0 where
-  pub same : b₁ ≡ put o u b
-  pub end : r ≡ o + length u
 
 -- "`ok`, the keyword, the record's length"
 unfoldable pub ok_front : Keyword → ℕ → List ℕ

@@ -2,19 +2,18 @@
 // repeats an earlier one, and once more to write; so a refusal leaves the lent buffer as it was, and no scratch holds the whole sheet.
 #![tactic(auto)]
 
-ghost use Rattle.std.specs.Prelude.{◌+◌, ◌-◌, ◌≤◌, ◌<◌, ◌≡◌, eqb, length};
+ghost use Rattle.std.specs.Prelude.{◌≡◌, ◌==◌, ◌≤◌, length, MatchResult};
+ghost use Rattle.std.specs.List.{list_any};
 ghost use Rattle.model.specs.Answer.{said, outcome, after};
-ghost use Rattle.repeat.specs.Prints.{any};
-ghost use Rattle.model.specs.Sheet.{line_feed, lines_of, read_lines, sheet_by, sheet_output};
-ghost use Rattle.sheet.specs.Lines.{SameLine, LineEnds, LineWritten, LinesFit, LinesWritten, NextLine, AskedAt, LineRepeats, AskedPrint, PrintRepeats, AskedBefore, HasBefore, RepeatNext, AskedCount, CountIs, AskedLine, LineTaken, SurveyIs, LinesRead, LinedEnds};
+ghost use Rattle.model.specs.Sheet.{line_feed, is_blank_line, sheet_output};
+ghost use Rattle.sheet.specs.Lines.{line_length, SameLine, LineIs, AskedAt, LineRepeats, AskedRepeat, RepeatIs, AskedCount, CountIs, AskedLine, LineTaken, SurveyIs, LineWritten, LinesFit, LinesWritten, LinesRead, JudgeEnds, SheetEnds};
 
+use layout::HEAD;
 use model::{Answer, Call, Refusal, Refused};
+use repeat::Notes;
 
 // "text over 65,536 bytes"
 const LONGEST_SHEET: usize = 65536;
-
-// "more than 512 declarations"
-const MOST_DECLARATIONS: usize = 512;
 
 // "The 40,960 bytes bind each declaration"
 const LONGEST_RECORD: usize = 40960;
@@ -22,83 +21,64 @@ const LONGEST_RECORD: usize = 40960;
 // The canonical text of a line has fewer bytes than twice the longest line.
 const LONGEST_PRINTED: usize = 8192;
 
-// A sheet record's kind, and how long its head is.
-const SHEET: u16 = 0x30;
-
-const HEAD: usize = 6;
-
-// What is known of the lines that were read: how many declarations they say, how long their records are together, the line of the 513th and the
-// line of the first repeat, each 0 where there is none.
-#[derive(Clone, Copy)]
-pub struct Seen {
-    pub count: usize,
-    pub total: usize,
-    pub crowded: usize,
-    pub repeated: usize,
-}
-
-#[derive(Clone, Copy)]
-pub enum Taken {
-    More(Seen),
-    Refused { refusal: Refusal, position: usize },
-}
-
-#[derive(Clone, Copy)]
-pub enum Surveyed {
-    Read(Seen),
-    Refused {
-        refusal: Refusal,
-        line: usize,
-        position: usize,
-    },
-}
+// How many bytes are looked at in one step for a line feed.
+const BLOCK: usize = 16;
 
 // Whether a line feed is among some bytes: no early exit, so that several are looked at in one step.
 fn has_feed(t: &[u8]) -> bool
-    ensures { result ≡ any (eqb line_feed) t.now }
+    ensures { result ≡ list_any (λ c. c == line_feed) t.now }
 {
-    let mut found = false;
-    let mut i = 0;
-    while i < t.len() {
-        if t[i] == b'\n' {
-            found = true;
-        }
-        i += 1;
-    }
-    found
+    t.iter().fold(false, |found, c| found | (*c == b'\n'))
 }
 
-// How many bytes are looked at so.
-const BLOCK: usize = 16;
-
-// A place further on in the line at a place: behind blocks that have no line feed.
-fn pass_blocks(s: &[u8], at: usize) -> usize
-    requires { at ≤ length s.now }
-    ensures { SameLine s.now at result }
+// What is left of a text behind blocks without a line feed: a loop over what is left.
+#[tactic(auto, using(crate::proofs::Feeds::passing))]
+fn pass_blocks(text: &[u8]) -> &[u8]
+    ensures { SameLine text.now result.now }
 {
-    let mut i = at;
-    while BLOCK <= s.len() - i {
-        if has_feed(&s[i..i + BLOCK]) {
-            return i;
+    let mut left = text;
+    while BLOCK <= left.len() {
+        if has_feed(&left[..BLOCK]) {
+            return left;
         }
-        i += BLOCK;
+        left = &left[BLOCK..];
     }
-    i
+    left
 }
 
-// The place of the line feed that ends the line at a place, or the end of the text.
-fn line_end(s: &[u8], at: usize) -> usize
-    requires { at ≤ length s.now }
-    ensures { LineEnds s.now at result }
+// The length of the line that a text begins with: blocks of it are passed first, since most lines are long.
+fn line_length(text: &[u8]) -> usize
+    ensures { (result ≡ line_length text.now) × (result ≤ length text.now) }
 {
-    let mut i = pass_blocks(s, at);
-    while i < s.len() {
-        if s[i] == b'\n' {
-            return i;
-        }
-        i += 1;
+    let left = pass_blocks(text);
+    let rest = left.iter().position(|c| *c == b'\n').unwrap_or(left.len());
+    text.len() - left.len() + rest
+}
+
+// A line, and what stands behind its line feed.
+#[derive(Clone, Copy, Debug, PartialEq, Eq)]
+struct Line<'a> {
+    bytes: &'a [u8],
+    rest: &'a [u8],
+}
+
+#[tactic(auto, using(crate::proofs::Feeds::line_is))]
+fn first_line(text: &[u8]) -> Line<'_>
+    ensures { LineIs text.now result }
+{
+    let length = line_length(text);
+    Line {
+        bytes: &text[..length],
+        rest: &text[text.len().min(length + 1)..],
     }
-    i
+}
+
+// "A line of blanks only is passed over, however long."
+#[tactic(auto, using(crate::proofs::Feeds::blank_is))]
+fn is_blank(line: &[u8]) -> bool
+    ensures { result ≡ is_blank_line line.now }
+{
+    text::blanks(line) == line.len()
 }
 
 // Whether the line at a place repeats a record.
@@ -106,271 +86,176 @@ fn line_repeats(text: &[u8], at: usize, record: &[u8]) -> bool
     requires { AskedAt text.now at «record».now }
     ensures { LineRepeats text.now at «record».now result }
 {
-    let mut other = [0u8; LONGEST_RECORD];
-    let e = line_end(text, at);
-    let r = declaration::read(Call::General, &text[at..e], &mut other);
-    match r {
+    let mut other = [0; LONGEST_RECORD];
+    match declaration::read(Call::General, first_line(&text[at..]).bytes, &mut other) {
         Ok(length) => repeat::repeats(&other[..length], record),
-        Err(Refused { refusal, position }) => false,
+        Err(_) => false,
     }
 }
 
-// The same, where their fingerprints are known: only equal ones are looked at.
-fn print_repeats(text: &[u8], print: u32, at: usize, h: u32, record: &[u8]) -> bool
-    requires { AskedPrint text.now print at h «record».now }
-    ensures { PrintRepeats text.now print at h «record».now result }
-{
-    if print == h {
-        return line_repeats(text, at, record);
-    }
-    false
+// What is known of the lines that were read: the fingerprints and places of up to 512 declarations, how long the records of all are together, the line
+// of the 513th and that of the first repeat.
+#[derive(Drop)]
+struct Seen {
+    notes: Notes,
+    total: usize,
+    crowded: Option<usize>,
+    repeated: Option<usize>,
 }
 
-// Whether a record repeats one of the first n lines that were noted.
-fn earlier(text: &[u8], prints: &[u32], places: &[usize], n: usize, h: u32, record: &[u8]) -> bool
-    requires { AskedBefore text.now prints.now places.now n h «record».now }
-    ensures { HasBefore text.now prints.now places.now n h «record».now result }
+// The line of the first repeat, after one more declaration.
+fn next_repeat(text: &[u8], line: usize, record: &[u8], print: u32, seen: &Seen) -> Option<usize>
+    requires { AskedRepeat text.now «record».now print seen.now }
+    ensures { RepeatIs text.now line «record».now print seen.now result }
 {
-    let mut i = 0;
-    while i < n {
-        if print_repeats(text, prints[i], places[i], h, record) {
-            return true;
-        }
-        i += 1;
+    if seen.repeated.is_some() {
+        return seen.repeated;
     }
-    false
-}
-
-// The line of the first repeat, after one more declaration: 0 for none.
-fn repeat_line(
-    text: &[u8],
-    line: usize,
-    old: usize,
-    prints: &[u32],
-    places: &[usize],
-    n: usize,
-    h: u32,
-    record: &[u8],
-) -> usize
-    requires { AskedBefore text.now prints.now places.now n h «record».now }
-    ensures { RepeatNext text.now prints.now places.now n h «record».now old line result }
-{
-    if old == 0 {
-        if repeat::among(prints, n, h) {
-            if earlier(text, prints, places, n, h, record) {
-                return line;
-            }
-            return 0;
-        }
-        return 0;
+    if seen
+        .notes
+        .repeats(print, |place| line_repeats(text, place, record))
+    {
+        Some(line)
+    } else {
+        None
     }
-    old
 }
 
 // One more declaration.
-fn count(
-    text: &[u8],
-    at: usize,
-    line: usize,
-    s: Seen,
-    record: &[u8],
-    scratch: &mut [u8],
-    prints: &mut [u32],
-    places: &mut [usize],
-) -> Seen
-    requires { AskedCount text.now at line s «record».now scratch.old prints.old places.old }
-    ensures { CountIs text.now at line s «record».now scratch.old prints.old places.old scratch.new prints.new places.new result }
+fn count(text: &[u8], at: usize, line: usize, record: &[u8], scratch: &mut [u8], seen: &mut Seen)
+    requires { AskedCount text.now at line «record».now scratch.old seen.old }
+    ensures { CountIs text.now at line «record».now scratch.old seen.old seen.new }
 {
-    let n = s.count;
-    let total = s.total + record.len();
-    let crowded = s.crowded;
-    let old = s.repeated;
-    if n < MOST_DECLARATIONS {
-        let h = repeat::fingerprint(record, scratch);
-        let repeated = repeat_line(text, line, old, prints, places, n, h, record);
-        prints[n] = h;
-        places[n] = at;
-        return Seen {
-            count: n + 1,
-            total,
-            crowded,
-            repeated,
-        };
+    seen.total += record.len();
+    if seen.notes.is_full() {
+        seen.crowded = seen.crowded.or(Some(line));
+        return;
     }
-    if n == MOST_DECLARATIONS {
-        return Seen {
-            count: n + 1,
-            total,
-            crowded: line,
-            repeated: old,
-        };
-    }
-    Seen {
-        count: n + 1,
-        total,
-        crowded,
-        repeated: old,
-    }
+    let print = repeat::fingerprint(record, scratch);
+    seen.repeated = next_repeat(text, line, record, print, seen);
+    seen.notes.push(print, at);
 }
 
 // One line.
 fn take_line(
     text: &[u8],
     at: usize,
-    end: usize,
+    bytes: &[u8],
     line: usize,
-    s: Seen,
     record: &mut [u8],
     scratch: &mut [u8],
-    prints: &mut [u32],
-    places: &mut [usize],
-) -> Taken
-    requires { AskedLine text.now at end line s «record».old scratch.old prints.old places.old }
-    ensures { LineTaken text.now at end line s «record».old scratch.old prints.old places.old «record».new scratch.new prints.new places.new result }
+    seen: &mut Seen,
+) -> Result<(), Refused>
+    requires { AskedLine text.now at bytes.now line «record».old scratch.old seen.old }
+    ensures { LineTaken text.now at bytes.now line «record».old scratch.old seen.old seen.new result }
 {
-    let l = &text[at..end];
-    if text::skip(l, 0) == l.len() {
-        return Taken::More(s);
+    if is_blank(bytes) {
+        return Ok(());
     }
-    let r = declaration::read(Call::General, l, record);
-    match r {
-        Ok(length) => {
-            let u = count(
-                text,
-                at,
-                line,
-                s,
-                &record[..length],
-                scratch,
-                prints,
-                places,
-            );
-            Taken::More(u)
-        }
-        Err(Refused { refusal, position }) => Taken::Refused { refusal, position },
-    }
+    let length = declaration::read(Call::General, bytes, record)?;
+    count(text, at, line, &record[..length], scratch, seen);
+    Ok(())
+}
+
+// A refusal, and the line that it is of.
+#[derive(Clone, Copy, Debug, PartialEq, Eq)]
+struct RefusedLine {
+    refused: Refused,
+    line: usize,
 }
 
 // All lines, without their records.
-fn survey(text: &[u8]) -> Surveyed
+fn survey(text: &[u8]) -> Result<Seen, RefusedLine>
     requires { length text.now ≤ 65536 }
     ensures { SurveyIs text.now result }
 {
-    let mut record = [0u8; LONGEST_RECORD];
-    let mut scratch = [0u8; LONGEST_PRINTED];
-    let mut prints = [0u32; MOST_DECLARATIONS];
-    let mut places = [0usize; MOST_DECLARATIONS];
-    let mut s = Seen {
-        count: 0,
+    let mut record = [0; LONGEST_RECORD];
+    let mut scratch = [0; LONGEST_PRINTED];
+    let mut seen = Seen {
+        notes: Notes::new(),
         total: 0,
-        crowded: 0,
-        repeated: 0,
+        crowded: None,
+        repeated: None,
     };
-    let mut at = 0;
+    let mut left = text;
     let mut line = 1;
-    while at < text.len() {
-        let e = line_end(text, at);
-        let t = take_line(
+    while !left.is_empty() {
+        let first = first_line(left);
+        let at = text.len() - left.len();
+        if let Err(refused) = take_line(
             text,
             at,
-            e,
+            first.bytes,
             line,
-            s,
             &mut record,
             &mut scratch,
-            &mut prints,
-            &mut places,
-        );
-        match t {
-            Taken::More(u) => {
-                s = u;
-            }
-            Taken::Refused { refusal, position } => {
-                return Surveyed::Refused {
-                    refusal,
-                    line,
-                    position,
-                };
-            }
+            &mut seen,
+        ) {
+            return Err(RefusedLine { refused, line });
         }
+        left = first.rest;
         line += 1;
-        at = next_line(text, e);
     }
-    Surveyed::Read(s)
+    Ok(seen)
 }
 
-// The records of all lines, one behind the other, from a place on.
-fn write_lines(text: &[u8], out: &mut [u8], o: usize)
-    requires { LinesFit text.now out.old o }
-    ensures { LinesWritten text.now out.old out.new o }
+// Writes a line's record, and answers its length; nothing for a blank line.
+#[tactic(auto, using(crate::proofs::Reading::writing))]
+fn write_line(line: &[u8], out: &mut [u8]) -> usize
+    ensures { LineWritten line.now out.old out.new result }
 {
-    let mut at = 0;
-    let mut p = o;
-    while at < text.len() {
-        let e = line_end(text, at);
-        p = write_line(&text[at..e], out, p);
-        at = next_line(text, e);
+    if is_blank(line) {
+        return 0;
     }
+    declaration::read(Call::General, line, out).unwrap_or(0)
 }
 
-// Behind the line feed at a place, or the end.
-fn next_line(text: &[u8], e: usize) -> usize
-    requires { e ≤ length text.now }
-    ensures { NextLine text.now e result }
+// The records of all lines, one behind the other.
+fn write_lines(text: &[u8], out: &mut [u8]) -> usize
+    requires { LinesFit text.now out.old }
+    ensures { LinesWritten text.now out.old out.new result }
 {
-    if e < text.len() {
-        return e + 1;
+    let mut left = text;
+    let mut n = 0;
+    while !left.is_empty() {
+        let first = first_line(left);
+        n += write_line(first.bytes, &mut out[n..]);
+        left = first.rest;
     }
-    e
-}
-
-fn write_line(l: &[u8], out: &mut [u8], p: usize) -> usize
-    requires { p ≤ length out.old }
-    ensures { LineWritten l.now out.old out.new p result }
-{
-    if text::skip(l, 0) == l.len() {
-        return p;
-    }
-    let part = &mut out[p..];
-    let r = declaration::read(Call::General, l, part);
-    match r {
-        Ok(length) => p + length,
-        Err(Refused { refusal, position }) => p,
-    }
+    n
 }
 
 // The answer for lines that are all read: 22, 23, 20, or the record.
-fn judge(text: &[u8], s: Seen, record: &mut [u8], line: &mut usize) -> Answer
-    requires { LinesRead text.now s }
-    ensures { LinedEnds (sheet_by (read_lines 1 (lines_of text.now))) «record».old «record».new line.new result }
+fn judge(text: &[u8], seen: &Seen, record: &mut [u8]) -> Result<usize, RefusedLine>
+    requires { LinesRead text.now seen.now }
+    ensures { JudgeEnds text.now «record».old «record».new result }
 {
-    let crowded = s.crowded;
-    let repeated = s.repeated;
-    if 0 < crowded {
-        *line = crowded;
-        return Err(Refused {
-            refusal: Refusal::TooManyDeclarations,
-            position: 0,
-        });
+    if let Some(line) = seen.crowded {
+        let refused = Refusal::TooManyDeclarations.into();
+        return Err(RefusedLine { refused, line });
     }
-    if 0 < repeated {
-        *line = repeated;
-        return Err(Refused {
-            refusal: Refusal::Repeated,
-            position: 0,
-        });
+    if let Some(line) = seen.repeated {
+        let refused = Refusal::Repeated.into();
+        return Err(RefusedLine { refused, line });
     }
-    *line = 0;
-    let length = HEAD + s.total;
+    let length = HEAD + seen.total;
     if record.len() < length {
-        return Err(Refused {
-            refusal: Refusal::NoRoom,
-            position: 0,
-        });
+        let refused = Refusal::NoRoom.into();
+        return Err(RefusedLine { refused, line: 0 });
     }
-    layout::header(record, 0, length, SHEET);
-    write_lines(text, record, HEAD);
-    Ok(length)
+    layout::header(record, 0, length, layout::SHEET as u16);
+    Ok(HEAD + write_lines(text, &mut record[HEAD..]))
+}
+
+fn sheet(text: &[u8], record: &mut [u8]) -> Result<usize, RefusedLine>
+    ensures { SheetEnds (sheet_output text.now) «record».old «record».new result }
+{
+    if LONGEST_SHEET < text.len() {
+        let refused = Refusal::SheetTooLong.into();
+        return Err(RefusedLine { refused, line: 0 });
+    }
+    let seen = survey(text)?;
+    judge(text, &seen, record)
 }
 
 // "A sheet text has one declaration a line, parted by line feeds, each read by the general call."
@@ -379,23 +264,14 @@ pub fn parse_sheet(text: &[u8], record: &mut [u8], line: &mut usize) -> Answer
     ensures left { «record».new ≡ after «record».old (sheet_output text.now).output }
     ensures lined { line.new ≡ (sheet_output text.now).line }
 {
-    if LONGEST_SHEET < text.len() {
-        *line = 0;
-        return Err(Refused {
-            refusal: Refusal::SheetTooLong,
-            position: 0,
-        });
-    }
-    let r = survey(text);
-    match r {
-        Surveyed::Read(s) => judge(text, s, record, line),
-        Surveyed::Refused {
-            refusal,
-            line: n,
-            position,
-        } => {
-            *line = n;
-            Err(Refused { refusal, position })
+    match sheet(text, record) {
+        Ok(length) => {
+            *line = 0;
+            Ok(length)
+        }
+        Err(refused) => {
+            *line = refused.line;
+            Err(refused.refused)
         }
     }
 }

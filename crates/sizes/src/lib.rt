@@ -7,6 +7,10 @@ ghost use Rattle.sizes.specs.Checked.{checked};
 
 use std::marker::Model;
 
+const NARROWEST: u32 = 8;
+
+const WIDEST: u32 = 256;
+
 // The M of `int<M>` and `uint<M>`.
 #[derive(Clone, Copy, Debug, PartialEq, Eq)]
 pub struct BitWidth {
@@ -25,22 +29,18 @@ impl Model for BitWidth {
 
 impl BitWidth {
     // Bit widths are multiples of 8 from 8 to 256; most are 256.
+    #[tactic(auto, using(crate::proofs::Checks::checks))]
     pub fn new(bit_width: u32) -> Option<BitWidth>
         ensures { result ≡ checked is_bit_width bit_width }
     {
-        if bit_width == 256 {
+        if bit_width == WIDEST {
             return Some(BitWidth { bits: bit_width });
         }
-        if bit_width < 8 {
-            return None;
+        if matches!(bit_width, NARROWEST..=WIDEST) && bit_width % NARROWEST == 0 {
+            Some(BitWidth { bits: bit_width })
+        } else {
+            None
         }
-        if 256 < bit_width {
-            return None;
-        }
-        if bit_width % 8 == 0 {
-            return Some(BitWidth { bits: bit_width });
-        }
-        None
     }
 
     pub fn get(self) -> u32
@@ -49,6 +49,10 @@ impl BitWidth {
         self.bits
     }
 }
+
+const SHORTEST: usize = 1;
+
+const LONGEST: usize = 32;
 
 // The M of `bytes<M>`.
 #[derive(Clone, Copy, Debug, PartialEq, Eq)]
@@ -68,16 +72,15 @@ impl Model for ByteLength {
 
 impl ByteLength {
     // Byte lengths go from 1 to 32.
+    #[tactic(auto, using(crate::proofs::Checks::checks))]
     pub fn new(len: usize) -> Option<ByteLength>
         ensures { result ≡ checked is_byte_length len }
     {
-        if len < 1 {
-            return None;
+        if matches!(len, SHORTEST..=LONGEST) {
+            Some(ByteLength { octets: len })
+        } else {
+            None
         }
-        if 32 < len {
-            return None;
-        }
-        Some(ByteLength { octets: len })
     }
 
     pub fn get(self) -> usize

@@ -1,52 +1,34 @@
 -- Static kinds one behind the other, by how each function ends.
 -- Assumes nothing.
 use mathlib.Core.Path.{◌≡◌, refl, sym, ◌∙◌, ap}
-use mathlib.Core.Bool.{true, false}
+use mathlib.Core.Bool.{Bool, true, false}
 use mathlib.Core.List.{List, [], ◌∷◌}
-use Rattle.std.specs.Prelude.{Option, None, Some}
+use Rattle.std.specs.Prelude.{Option, None, Some, min}
+use Rattle.std.proofs.lemmas.Bool.{eqb-false}
 use Prim.Native.Nat.{ℕ, zero, suc, ◌+◌, ◌*◌, ◌-◌, ◌≤◌, ◌<◌}
-use native.Mathlib.Nat.{mul_assoc, mul_comm}
+use native.Mathlib.Nat.{sub-zero, mul_assoc, mul_comm}
 use native.Mathlib.Omega.{arith}
-use lib.ListN.{length, take, drop, length-drop}
-use lib.Seq.{length-take-le}
+use lib.Dec.{eqb}
+use lib.ListN.{length, drop}
+use borrow.Author.Tests.{eqb-true}
 use Rattle.kinds.specs.Bytes.{all}
-use Rattle.kinds.specs.Kind.{Elementary, Suffix, sized, unsized, Kind, Kinds, no_kind, more_kinds}
-use Rattle.model.specs.Tree.{Base, Fields, arrays, base_kind, kinds_of}
+use Rattle.kinds.specs.Kind.{Suffix, sized, unsized, Kind, Kinds, no_kind, more_kinds}
+use Rattle.model.specs.Tree.{Base, elementary, tuple, Fields, arrays, base_kind, kinds_of}
 use Rattle.model.specs.Reading.{FieldKind}
-use Rattle.model.specs.Layout.{le_value}
-use Rattle.record.specs.declared.Spot.{Spot}
-use Rattle.record.specs.Encoded.{kind_in, KindIs}
-use Rattle.record.proofs.Standing.{TupleThere, tuple-there, leaf-there, kind-least}
-use Rattle.record.proofs.Walk.{body-length}
+use Rattle.model.specs.Record.{is_base}
+use Rattle.record.specs.declared.Piece.{Piece}
+use Rattle.record.specs.Parts.{PieceIs, Headed}
+use Rattle.record.specs.Encoded.{KindIs}
+use Rattle.record.proofs.Standing.{fields-headed, kind-headed, kind-parts}
 use Rattle.encoding.specs.Dynamic.{is_dynamic, any_dynamic, static_length}
 use Rattle.encoding.specs.Judge.{given, repeated, end_of, in_row}
 use Rattle.encoding.proofs.Lengths.{no_dynamic}
 use Rattle.encoding.proofs.Runs.{repeated-still, repeated_mul, static-end, static-tuple, static-array}
-use Rattle.words.specs.Places.{capped, place_or}
-use Rattle.words.proofs.Caps.{cap_cases}
-use Rattle.extent.specs.Walks.{tree_of, FieldsAhead, KindAt}
+use Rattle.words.specs.Places.{capped}
+use Rattle.extent.specs.Walks.{tree_of}
 use Rattle.extent.proofs.Caps.{cap_times}
-use Rattle.extent.proofs.Steps.{none_left, base-inside, base-suffixes}
-use Rattle.extent.proofs.Reaches.{more-fields, no_fields}
+use Rattle.extent.proofs.Reaches.{some, none, leaf_record, leaf-stands, no_fields, ahead-named, ahead, ahead-less}
 use Rattle.static_kinds.specs.Places.{is_sized, product, SizedAre, SomeSized, CopiesAre, Place, LeafIs, SomeLeaf, LeafEnds, BaseIs, SomeBase, BaseEnds, RunEnds, StaticIs, SomeStatic, ManyEnd, RowIs, SomeRow, RowEnds}
-
--- Places.
-
--- a place behind the data stands for none, and any other for itself
-module _ (d : List ℕ) (o : Option ℕ) (within : (e : ℕ) → o ≡ Some e → e ≤ length d) (r : ℕ) (f : r ≡ place_or d o) where
-  pub place_none : length d < r → o ≡ None
-  place_none h = go o refl f
-    where
-      go : (x : Option ℕ) → o ≡ x → r ≡ place_or d x → x ≡ None
-      go None g k = refl
-      go (Some e) g k = absurd (omega (arith, within e g))
-
-  pub place-some : r ≤ length d → o ≡ Some r
-  place-some h = go o f
-    where
-      go : (x : Option ℕ) → r ≡ place_or d x → x ≡ Some r
-      go None k = absurd (omega arith)
-      go (Some e) k = ap Some (sym k)
 
 -- Suffixes over a static kind.
 
@@ -57,7 +39,8 @@ static-arrays k (sized n ∷ ss) h = static-arrays (Kind.array k (sized n)) ss h
 static-arrays k (unsized ∷ ss) h = let z : ◌≡◌ {A = ℕ} 0 1 = let (p, q) = static-arrays (Kind.array k unsized) ss h in cc in absurd (omega arith)
 
 -- readers that agree wherever they are asked
-repeated-within : (L n : ℕ) (r s : ℕ → Option ℕ) (at : ℕ) → at ≤ L → ((a : ℕ) → a ≤ L → r a ≡ s a) → ((a e : ℕ) → r a ≡ Some e → e ≤ L) → repeated n r at ≡ repeated n s at
+repeated-within : (L n : ℕ) (r s : ℕ → Option ℕ) (at : ℕ) → at ≤ L → ((a : ℕ) → a ≤ L → r a ≡ s a) → ((a e : ℕ) → r a ≡ Some e → e ≤ L)
+    → repeated n r at ≡ repeated n s at
 unfolding repeated
 repeated-within L zero r s at h f g = refl
 repeated-within L (suc n) r s at h f g = rw (← f at h) (go (r at) refl (λ e l. repeated-within L n r s e l f g))
@@ -67,180 +50,135 @@ repeated-within L (suc n) r s at h f g = rw (← f at h) (go (r at) refl (λ e l
     go (Some e) p k = k e (g at e p)
 
 module _ (d : List ℕ) where
-  arrays-run : (ss : List Suffix) (k : Kind) → is_dynamic (arrays k ss) ≡ false → (m at : ℕ) → at ≤ length d → repeated m (λ a. end_of d (arrays k ss) a) at ≡ repeated (m * product ss) (λ a. end_of d k a) at
+  arrays-run : (ss : List Suffix) (k : Kind) → is_dynamic (arrays k ss) ≡ false → (m at : ℕ) → at ≤ length d
+      → repeated m (λ a. end_of d (arrays k ss) a) at ≡ repeated (m * product ss) (λ a. end_of d k a) at
   unfolding arrays product is_dynamic
   arrays-run [] k s m at h = let z : m * 1 ≡ m = omega arith in rw z
   arrays-run (sized n ∷ ss) k s m at h =
       let j : Kind = Kind.array k (sized n) in
       let t : is_dynamic k ≡ false = (static-arrays j ss s).0 in
+      let turned : m * product ss * n ≡ m * (n * product ss) = mul_assoc m (product ss) n ∙ ap (λ x. m * x) (mul_comm (product ss) n) in
       arrays-run ss j s m at h
-      ∙ repeated-within (length d) (m * product ss) (λ a. end_of d j a) (λ a. repeated n (λ b. end_of d k b) a) at h (λ a g. static-array d k n t a g) (λ a e z. (static-end d j t a e z).1)
+      ∙ repeated-within (length d) (m * product ss) (λ a. end_of d j a) (λ a. repeated n (λ b. end_of d k b) a) at h (λ a g. static-array d k n t a g)
+      (λ a e z. (static-end d j t a e z).1)
       ∙ repeated_mul (m * product ss) n (λ a. end_of d k a) at
-      ∙ ap (λ x. repeated x (λ a. end_of d k a) at) (turned m n (product ss))
-    where
-      turned : (m n p : ℕ) → m * p * n ≡ m * (n * p)
-      turned m n p = mul_assoc m p n ∙ ap (λ x. m * x) (mul_comm p n)
+      ∙ ap (λ x. repeated x (λ a. end_of d k a) at) turned
   arrays-run (unsized ∷ ss) k s m at h = let z : ◌≡◌ {A = ℕ} 0 1 = let (p, q) = static-arrays (Kind.array k unsized) ss s in cc in absurd (omega arith)
-
--- A base, again and again.
-
--- the count stands for the number as far as the data reach
-count_low : (count n : ℕ) → count ≡ capped n → count ≤ n
-count_low count n e = cap_cases n (λ h f. omega arith) (λ h f. omega arith)
-
-count-is : (count n : ℕ) → count ≡ capped n → count ≤ 65536 → n ≡ count
-count-is count n e h = cap_cases n (λ l f. omega arith) (λ l f. absurd (omega arith))
-
-module _ (t d : List ℕ) (at count : ℕ) where
-  -- after i of them the next stands at p
-  pub record Going (i p : ℕ) : Type 0 where
-    pub place : Place d p
-    pub counted : i ≤ count
-    pub low : i ≤ p
-    pub all : (k : FieldKind) → BaseIs t k → (n : ℕ) → count ≡ capped n → repeated n (λ a. end_of d (base_kind k.base) a) at ≡ repeated (n - i) (λ a. end_of d (base_kind k.base) a) p
-
-  pub going_start : Place d at → Going 0 at
-  going_start q = record { place = q; counted = omega arith; low = omega arith; all = λ k b n e. let z : n - 0 ≡ n = omega arith in rw z }
-
-  module _ (i p : ℕ) (w : Going i p) where
-    pub going_end : count ≤ i → RunEnds t d at count p
-    unfolding repeated
-    going_end h k b n e =
-        let z : n - i ≡ 0 = omega (arith, w.counted, w.low, w.place.inside, w.place.small, count-is count n e (omega (arith, w.counted, w.low, w.place.inside, w.place.small))) in
-        sym (ap (place_or d) (w.all k b n e ∙ ap (λ m. repeated m (λ a. end_of d (base_kind k.base) a) p) z))
-
-    module _ (h : i < count) (q : ℕ) (x : BaseEnds t d p q) where
-      once : (k : FieldKind) → BaseIs t k → (n : ℕ) → count ≡ capped n → repeated (n - i) (λ a. end_of d (base_kind k.base) a) p ≡ given (end_of d (base_kind k.base) p) (λ e. repeated (n - (i + 1)) (λ a. end_of d (base_kind k.base) a) e)
-      unfolding repeated
-      once k b n e = let z : n - i ≡ suc (n - (i + 1)) = omega (arith, count_low count n e) in ap (λ m. repeated m (λ a. end_of d (base_kind k.base) a) p) z
-
-      ends : (k : FieldKind) (b : BaseIs t k) (e : ℕ) → end_of d (base_kind k.base) p ≡ Some e → (e ≡ p + static_length (base_kind k.base)) × (e ≤ length d)
-      ends k b e f = static-end d (base_kind k.base) b.static p e f
-
-      pub going_none : length d < q → RunEnds t d at count q
-      going_none g k b n e =
-          let R : ℕ → Option ℕ = λ a. end_of d (base_kind k.base) a in
-          let o : R p ≡ None = place_none d (R p) (λ y f. (ends k b y f).1) q (x k b) g in
-          x k b ∙ ap (place_or d) (o ∙ sym (w.all k b n e ∙ once k b n e ∙ ap (λ y. given y (λ z. repeated (n - (i + 1)) R z)) o))
-
-      module _ (g : q ≤ length d) where
-        found : (k : FieldKind) (b : BaseIs t k) → end_of d (base_kind k.base) p ≡ Some q
-        found k b = place-some d (end_of d (base_kind k.base) p) (λ y f. (ends k b y f).1) q (x k b) g
-
-        pub going_still : q ≡ p → RunEnds t d at count p
-        going_still z k b n e =
-            let R : ℕ → Option ℕ = λ a. end_of d (base_kind k.base) a in
-            sym (ap (place_or d) (w.all k b n e ∙ repeated-still (n - i) R p (found k b ∙ ap Some z)))
-
-        pub going_next : SomeBase t → (q ≡ p → ⊥) → Going (i + 1) q
-        going_next s z = record {
-          place = record { inside = g; small = w.place.small };
-          counted = omega arith;
-          low = omega (arith, w.low, (ends s.0 s.1 q (found s.0 s.1)).0);
-          all = λ k b n e. let R : ℕ → Option ℕ = λ a. end_of d (base_kind k.base) a in w.all k b n e ∙ once k b n e ∙ ap (λ y. given y (λ a. repeated (n - (i + 1)) R a)) (found k b);
-        }
 
 -- A base by itself.
 
-module _ (t d : List ℕ) (at : ℕ) (q : SomeBase t) where
-  pub base-long : 6 ≤ length t
-  base-long = kind-least t q.0 q.1.is
+module _ (t : Piece) where
+  pub row-asks : t.kind ≡ 9 → SomeBase t → SomeRow t.body.now
+  row-asks z (elementary x, l) = absurd (omega (arith, l.code, (leaf_record x).1))
+  row-asks z (tuple fs, l) = (fs, l.1)
 
-  module _ (c : ℕ) (f : c ≡ le_value (take 2 (drop 4 t))) where
-    module _ (z : c ≡ 9) (n : ℕ) (e : n ≡ le_value (take 4 (drop 0 t))) where
-      abbrev body : List ℕ
-      body = take (n - 6) (drop 6 t)
+  pub leaf-asks : (t.kind ≡ 9 → ⊥) → SomeBase t → SomeLeaf t
+  leaf-asks z (elementary x, l) = (x, l)
+  leaf-asks z (tuple fs, l) = absurd (z l.0)
 
-      its-tuple : (k : FieldKind) → KindIs t k → TupleThere t k n
-      its-tuple k i = tuple-there t k i c f z n e
+  base-static : (b : Base) → BaseIs t b → is_dynamic (base_kind b) ≡ false
+  unfolding base_kind is_dynamic
+  base-static (elementary x) l = l.static
+  base-static (tuple fs) l = l.1.static
 
-      pub tuple-inside : (6 ≤ n) × (n ≤ length t)
-      tuple-inside = let x = its-tuple q.0 q.1.is in (x.low, x.inside)
+  module _ (d : List ℕ) (at : ℕ) (r : Option ℕ) where
+    pub row-ends : t.kind ≡ 9 → at ≤ length d → RowEnds t.body.now d at r → BaseEnds t d at r
+    unfolding base_kind
+    row-ends z h y (elementary x) l = absurd (omega (arith, l.code, (leaf_record x).1))
+    row-ends z h y (tuple fs) l = y fs l.1 ∙ sym (static-tuple d (kinds_of fs) l.1.static at h)
 
-      pub tuple-less : length body < length t
-      tuple-less = omega (arith, body-length t n tuple-inside.1, tuple-inside)
+    pub leaf-ends : (t.kind ≡ 9 → ⊥) → LeafEnds t d at r → BaseEnds t d at r
+    unfolding base_kind end_of
+    leaf-ends z y (elementary x) l = y x l
+    leaf-ends z y (tuple fs) l = absurd (z l.0)
 
-      tuple-kind : (b : Base) (fs : Fields) → b ≡ Base.tuple fs → base_kind b ≡ Kind.tuple (kinds_of fs)
-      unfolding base_kind
-      tuple-kind b fs g = ap base_kind g
+-- A base, again and again.
 
-      row_is : (k : FieldKind) (b : BaseIs t k) → RowIs body (its-tuple k b.is).fields
-      unfolding is_dynamic
-      row_is k b = let x = its-tuple k b.is in record { is = x.is; static = rw (tuple-kind k.base x.fields x.split) at b.static }
+-- after i of them the next stands at p
+abbrev Left : Piece → List ℕ → ℕ → ℕ → ℕ → Option ℕ → Type 0
+Left t d count i p r = (b : Base) → BaseIs t b → (n : ℕ) → count ≡ capped n → r ≡ repeated (n - i) (λ a. end_of d (base_kind b) a) p
 
-      pub tuple-asks : SomeRow body
-      tuple-asks = ((its-tuple q.0 q.1.is).fields, row_is q.0 q.1)
+pub record Going (t : Piece) (d : List ℕ) (at count i p : ℕ) : Type 0 where
+  pub place : Place d p
+  pub low : i ≤ p
+  pub all : (r : Option ℕ) → Left t d count i p r → RunEnds t d at count r
 
-      pub tuple-ends : at ≤ length d → (r : ℕ) → RowEnds body d at r → BaseEnds t d at r
-      tuple-ends h r y k b =
-          let x = its-tuple k b.is in
-          let s = row_is k b in
-          rw (tuple-kind k.base x.fields x.split) (y x.fields s ∙ ap (place_or d) (sym (static-tuple d (kinds_of x.fields) s.static at h)))
+pub going_start : {t : Piece} {d : List ℕ} {at count : ℕ} → Place d at → Going t d at count 0 at
+going_start q = record { place = q; low = omega arith; all = λ r f b l n e. rw sub-zero at (f b l n e) }
 
-    module _ (z : c ≡ 9 → ⊥) where
-      leaf-kind : (b : Base) (x : Elementary) → b ≡ Base.elementary x → base_kind b ≡ Kind.elementary x
-      unfolding base_kind
-      leaf-kind b x g = ap base_kind g
+module _ {t : Piece} {d : List ℕ} {at count i p : ℕ} (w : Going t d at count i p) where
+  pub going_end : i ≡ count → RunEnds t d at count (Some p)
+  unfolding repeated
+  going_end h = w.all (Some p) (λ b l n e. let z : n - i ≡ 0 = omega (arith, w.low, w.place.inside, w.place.small) in rw z refl)
 
-      its-leaf : (k : FieldKind) → BaseIs t k → (x : Elementary) × LeafIs t x × (base_kind k.base ≡ Kind.elementary x)
-      unfolding is_dynamic
-      its-leaf k b =
-          let (x, e) = leaf-there t k b.is c f z in
-          (x, record { kind = k; is = b.is; base = e; static = rw (leaf-kind k.base x e) at b.static }, leaf-kind k.base x e)
+  module _ (h : i < count) where
+    once : (b : Base) (n : ℕ) → count ≡ capped n
+        → repeated (n - i) (λ a. end_of d (base_kind b) a) p ≡ given (end_of d (base_kind b) p) (λ e. repeated (n - (i + 1)) (λ a. end_of d (base_kind b) a) e)
+    unfolding repeated
+    once b n e = let z : n - i ≡ suc (n - (i + 1)) = omega arith in rw z refl
 
-      pub leaf-asks : SomeLeaf t
-      leaf-asks = let (x, l, e) = its-leaf q.0 q.1 in (x, l)
+    module _ (o : Option ℕ) (x : BaseEnds t d p o) where
+      pub going_none : o ≡ None → (r : Option ℕ) → r ≡ None → RunEnds t d at count r
+      going_none z r g = w.all r (λ b l n e. rw (once b n e, ← x b l, z) g)
 
-      pub leaf-ends : (r : ℕ) → LeafEnds t d at r → BaseEnds t d at r
-      unfolding end_of
-      leaf-ends r y k b = let (x, l, e) = its-leaf k b in rw e (y x l)
+      module _ (q : ℕ) (g : o ≡ Some q) where
+        found : (b : Base) → BaseIs t b → end_of d (base_kind b) p ≡ Some q
+        found b l = sym (x b l) ∙ g
+
+        pub going_still : q ≡ p → RunEnds t d at count (Some p)
+        going_still z = w.all (Some p) (λ b l n e. sym (repeated-still (n - i) (λ a. end_of d (base_kind b) a) p (found b l ∙ ap Some z)))
+
+        pub going_next : SomeBase t → (q ≡ p → ⊥) → Going t d at count (i + 1) q
+        going_next (b, l) z =
+            let ends = static-end d (base_kind b) (base-static t b l) p q (found b l) in
+            record {
+              place = record { inside = ends.1; small = w.place.small };
+              low = omega (arith, w.low, ends.0);
+              all = λ r f. w.all r (λ b l n e. rw (once b n e, found b l) (f b l n e));
+            }
 
 -- A kind.
 
-module _ (t : List ℕ) (q : SomeStatic t) where
-  pub kind-long : 6 ≤ length t
-  kind-long = kind-least t q.0 q.1.is
+module _ {t : List ℕ} {p : Piece} (j : PieceIs t (Some p)) where
+  base_is : (k : FieldKind) → StaticIs t k → BaseIs p k.base
+  unfolding base_kind is_dynamic is_base
+  base_is k s = go (eqb p.kind 9) refl
+    where
+      static : is_dynamic (base_kind k.base) ≡ false
+      static = (static-arrays (base_kind k.base) k.suffixes s.static).0
 
-  pub base-asks : SomeBase t
-  base-asks = (q.0, record { is = q.1.is; static = (static-arrays (base_kind q.0.base) q.0.suffixes q.1.static).0 })
+      go : (b : Bool) → eqb p.kind 9 ≡ b → BaseIs p k.base
+      go true e =
+          let z = eqb-true p.kind 9 e in
+          let f = (kind-parts t p k s.is j).nested z in
+          rw f.split (z, record { is = f.is; static = rw f.split at static })
+      go false e =
+          let f = (kind-parts t p k s.is j).leaf (eqb-false p.kind 9 e) in
+          let x = leaf-stands t p k f.leaf s.is j f.split in
+          rw f.split (record { code = x.kind; body_is = x.body_is; well = rw f.split at s.is.base-well; static = rw f.split at static })
 
-  module _ (n : ℕ) (e : n ≡ le_value (take 4 (drop 0 t))) where
-    abbrev behind : List ℕ
-    behind = take (length t - n) (drop n t)
+  sized_are : (k : FieldKind) → StaticIs t k → SizedAre p.rest.now k.suffixes
+  sized_are k s = record { is = (kind-parts t p k s.is j).suffixes; fixed = (static-arrays (base_kind k.base) k.suffixes s.static).1 }
 
-    pub kind-inside : (6 ≤ n) × (n ≤ length t)
-    kind-inside = base-inside t q.0 q.1.is n e
+  pub base-asks : SomeStatic t → SomeBase p
+  base-asks (k, s) = (k.base, base_is k s)
 
-    sized_are : (k : FieldKind) → StaticIs t k → SizedAre behind k.suffixes
-    sized_are k s = record { is = base-suffixes t k s.is n e; fixed = (static-arrays (base_kind k.base) k.suffixes s.static).1 }
+  pub copies-ask : SomeStatic t → SomeSized p.rest.now
+  copies-ask (k, s) = (k.suffixes, sized_are k s)
 
-    pub copies-ask : SomeSized behind
-    copies-ask = (q.0.suffixes, sized_are q.0 q.1)
-
-    pub many-end : (d : List ℕ) (at count v m r : ℕ) → at ≤ length d → CopiesAre behind v → (m ≡ capped (count * v)) × (m ≤ 65537) → RunEnds t d at m r → ManyEnd t d at count r
-    many-end d at count v m r h c f y k s =
-        let b : Kind = base_kind k.base in
-        let g : m ≡ capped (count * product k.suffixes) = f.0 ∙ ap (λ x. capped (count * x)) (c.all k.suffixes (sized_are k s)) ∙ cap_times count (product k.suffixes) in
-        y k (record { is = s.is; static = (static-arrays b k.suffixes s.static).0 }) (count * product k.suffixes) g ∙ ap (place_or d) (sym (arrays-run d k.suffixes b s.static count at h))
+  pub many-end : (d : List ℕ) (at count v m : ℕ) (r : Option ℕ) → at ≤ length d → CopiesAre p.rest.now v → m ≡ capped (count * v) → RunEnds p d at m r
+      → ManyEnd t d at count r
+  many-end d at count v m r h c f y k s =
+      let many : m ≡ capped (count * product k.suffixes) = rw (f, c.all k.suffixes (sized_are k s)) (cap_times count (product k.suffixes)) in
+      y k.base (base_is k s) (count * product k.suffixes) many ∙ sym (arrays-run d k.suffixes (base_kind k.base) s.static count at h)
 
 -- Fields.
 
-pub record Passing (b d : List ℕ) (at i p : ℕ) : Type 0 where
-  pub inside : i ≤ length b
+pub record Passing (b d : List ℕ) (at : ℕ) (left : List ℕ) (p : ℕ) : Type 0 where
+  pub inside : length left ≤ length b
   pub place : Place d p
-  pub ask : SomeRow (drop i b)
-  pub all : (fs : Fields) → RowIs b fs → (gs : Fields) × RowIs (drop i b) gs × (in_row d (kinds_of fs) at ≡ in_row d (kinds_of gs) p)
-
-pub pass_start : (b d : List ℕ) (at : ℕ) → SomeRow b → Place d at → Passing b d at 0 at
-pass_start b d at q h = record { inside = omega arith; place = h; ask = q; all = λ fs s. (fs, s, refl) }
-
-no_row : (d : List ℕ) (ks : Kinds) (p : ℕ) → ks ≡ no_kind → in_row d ks p ≡ Some p
-unfolding in_row
-no_row d ks p e = ap (λ x. in_row d x p) e
-
-more-row : (d : List ℕ) (ks : Kinds) (k : Kind) (js : Kinds) (p : ℕ) → ks ≡ more_kinds k js → in_row d ks p ≡ given (end_of d k p) (λ e. in_row d js e)
-unfolding in_row
-more-row d ks k js p e = ap (λ x. in_row d x p) e
+  pub ask : SomeRow left
+  pub all : (r : Option ℕ) → RowEnds left d p r → RowEnds b d at r
 
 pub once_is : (r : ℕ → Option ℕ) (at : ℕ) → repeated 1 r at ≡ r at
 unfolding repeated
@@ -250,62 +188,56 @@ once_is r at = go (r at)
     go None = refl
     go (Some e) = refl
 
-module _ (b d : List ℕ) (at i p : ℕ) (w : Passing b d at i p) where
-  pub pass_end : length b ≤ i → RowEnds b d at p
-  pass_end h fs s = let (gs, y, e) = w.all fs s in sym (ap (place_or d) (e ∙ no_row d (kinds_of gs) p (no_fields gs (none_left b i gs y.is h))))
+module _ {b d : List ℕ} {at : ℕ} {left : List ℕ} {p : ℕ} (w : Passing b d at left p) where
+  pub pass_end : true ≡ eqb (length left) 0 → RowEnds b d at (Some p)
+  unfolding in_row
+  pass_end t = w.all (Some p) (λ fs s. rw (no_fields left fs s.is (none left t)) refl)
 
-  module _ (h : i < length b) where
-    pub pass_ahead : FieldsAhead b i
-    pass_ahead = (h, (w.ask.0, w.ask.1.is))
+  module _ (t : false ≡ eqb (length left) 0) where
+    pub pass_headed : Headed left
+    pass_headed = fields-headed left (w.ask.0, w.ask.1.is) (some left t)
 
-    module _ (s : Spot) (k : KindAt b i s) where
-      abbrev part : List ℕ
-      part = take (s.to - s.from) (drop s.from b)
+    module _ {f : Piece} (j : PieceIs left (Some f)) where
+      pub pass_named : (2 ≤ length f.body.now) × Headed (drop 2 f.body.now)
+      pass_named = ahead-named left (some left t) f j (w.ask.0, w.ask.1.is)
 
-      -- the first of what is left, and the others
-      record Here (gs : Fields) : Type 0 where
-        kind : FieldKind
-        rest : Fields
-        first : StaticIs part kind
-        others : RowIs (drop s.to b) rest
-        same : (p : ℕ) → in_row d (kinds_of gs) p ≡ given (end_of d (tree_of kind) p) (λ e. in_row d (kinds_of rest) e)
+      module _ {n : Piece} (l : PieceIs (drop 2 f.body.now) (Some n)) where
+        -- the first of what is left, and the others
+        record Here (gs : Fields) : Type 0 where
+          kind : FieldKind
+          rest : Fields
+          first : StaticIs n.rest.now kind
+          others : RowIs f.rest.now rest
+          same : kinds_of gs ≡ more_kinds (tree_of kind) (kinds_of rest)
 
-      here : (gs : Fields) → RowIs (drop i b) gs → Here gs
-      unfolding any_dynamic is_dynamic
-      here gs y =
-          let z = k.all gs y.is in
-          let e = more-fields gs z.field z.fields z.split in
-          let (f, g) = no_dynamic (is_dynamic (tree_of (kind_in z.field))) (any_dynamic (kinds_of z.fields)) (rw e at y.static) in
-          record { kind = kind_in z.field; rest = z.fields; first = record { is = z.is; static = f }; others = record { is = z.rest; static = g }; same = λ p. more-row d (kinds_of gs) (tree_of (kind_in z.field)) (kinds_of z.fields) p e }
+        here : (gs : Fields) → RowIs left gs → Here gs
+        unfolding any_dynamic
+        here gs y =
+            let z = ahead left (some left t) f j n l gs y.is in
+            let (u, v) = no_dynamic (is_dynamic (tree_of z.kind)) (any_dynamic (kinds_of z.fields)) (rw z.kinds at y.static) in
+            record { kind = z.kind; rest = z.fields; first = record { is = z.is; static = u }; others = record { is = z.rest; static = v }; same = z.kinds }
 
-      pub pass_asks : SomeStatic part
-      pass_asks = let x = here w.ask.0 w.ask.1 in (x.kind, x.first)
+        pub pass_asks : SomeStatic n.rest.now
+        pass_asks = let x = here w.ask.0 w.ask.1 in (x.kind, x.first)
 
-      pub pass_less : length part < length b
-      pass_less = omega (arith, length-take-le (s.to - s.from) (drop s.from b) (rw length-drop (omega (arith, k.inside))), k.low, k.least, k.inside)
+        pub pass_less : length n.rest.now < length b
+        pass_less = omega (arith, ahead-less left (some left t) f j n l, w.inside)
 
-      module _ (r : ℕ) (y : ManyEnd part d p 1 r) where
-        answer : (j : FieldKind) → StaticIs part j → r ≡ place_or d (end_of d (tree_of j) p)
-        answer j z = y j z ∙ ap (place_or d) (once_is (λ a. end_of d (tree_of j) a) p)
+        module _ (o : Option ℕ) (y : ManyEnd n.rest.now d p 1 o) where
+          ends : (k : FieldKind) → StaticIs n.rest.now k → end_of d (tree_of k) p ≡ o
+          ends k s = sym (y k s ∙ once_is (λ a. end_of d (tree_of k) a) p)
 
-        within : (j : FieldKind) → StaticIs part j → (e : ℕ) → end_of d (tree_of j) p ≡ Some e → e ≤ length d
-        within j z e f = (static-end d (tree_of j) z.static p e f).1
+          pub pass_none : o ≡ None → (r : Option ℕ) → r ≡ None → RowEnds b d at r
+          unfolding in_row
+          pass_none z r g = w.all r (λ fs s. let x = here fs s in rw (x.same, ends x.kind x.first, z) g)
 
-        pub pass_none : length d < r → RowEnds b d at r
-        pass_none g fs z =
-            let (gs, v, e) = w.all fs z in
-            let x = here gs v in
-            let o : end_of d (tree_of x.kind) p ≡ None = place_none d (end_of d (tree_of x.kind) p) (within x.kind x.first) r (answer x.kind x.first) g in
-            answer x.kind x.first ∙ ap (place_or d) (o ∙ sym (e ∙ x.same p ∙ ap (λ u. given u (λ a. in_row d (kinds_of x.rest) a)) o))
-
-        pub pass_next : r ≤ length d → Passing b d at s.to r
-        pass_next g = record {
-          inside = k.inside;
-          place = record { inside = g; small = w.place.small };
-          ask = let x = here w.ask.0 w.ask.1 in (x.rest, x.others);
-          all = λ fs z.
-              let (gs, v, e) = w.all fs z in
-              let x = here gs v in
-              let o : end_of d (tree_of x.kind) p ≡ Some r = place-some d (end_of d (tree_of x.kind) p) (within x.kind x.first) r (answer x.kind x.first) g in
-              (x.rest, x.others, e ∙ x.same p ∙ ap (λ u. given u (λ a. in_row d (kinds_of x.rest) a)) o);
-        }
+          pub pass_next : (q : ℕ) → o ≡ Some q → Passing b d at f.rest.now q
+          unfolding in_row
+          pass_next q z =
+              let x₀ = here w.ask.0 w.ask.1 in
+              record {
+                inside = omega (arith, j.covers, w.inside);
+                place = record { inside = (static-end d (tree_of x₀.kind) x₀.first.static p q (ends x₀.kind x₀.first ∙ z)).1; small = w.place.small };
+                ask = (x₀.rest, x₀.others);
+                all = λ r u. w.all r (λ fs s. let x = here fs s in rw (x.same, ends x.kind x.first, z) (u x.rest x.others));
+              }

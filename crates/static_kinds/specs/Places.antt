@@ -1,15 +1,16 @@
 -- Where values of static kinds end, by the records of their kinds.
 -- Assumes nothing.
-use Rattle.std.specs.Prelude.{◌≡◌, Bool, true, false, List, [], ◌∷◌, ℕ, ◌*◌, ◌≤◌, length}
+use Rattle.std.specs.Prelude.{◌≡◌, Bool, true, false, List, [], ◌∷◌, ℕ, ◌*◌, ◌≤◌, length, Option}
 use Rattle.kinds.specs.Bytes.{all}
-use Rattle.kinds.specs.Kind.{Elementary, Suffix, sized, unsized}
-use Rattle.model.specs.Tree.{Base, Fields, base_kind, kinds_of}
+use Rattle.kinds.specs.Kind.{is_elementary, Elementary, Suffix, sized, unsized}
+use Rattle.model.specs.Tree.{Base, elementary, tuple, Fields, base_kind, kinds_of}
 use Rattle.model.specs.Reading.{FieldKind}
-use Rattle.record.specs.Encoded.{FieldsAre, KindIs}
+use Rattle.record.specs.declared.Piece.{Piece}
+use Rattle.record.specs.Encoded.{FieldsAre, KindIs, SuffixesAre}
 use Rattle.encoding.specs.Dynamic.{is_open_ended, is_dynamic, any_dynamic}
 use Rattle.encoding.specs.Judge.{repeated, leaf, end_of, in_row}
-use Rattle.words.specs.Places.{capped, place_or}
-use Rattle.extent.specs.Walks.{tree_of, SuffixesAre}
+use Rattle.words.specs.Places.{capped}
+use Rattle.extent.specs.Walks.{elementary_code, elementary_body, tree_of}
 
 -- fixed suffixes, and how many times what stands before them they say
 abbrev pub is_sized : Suffix → Bool
@@ -38,33 +39,44 @@ pub record Place (d : List ℕ) (at : ℕ) : Type 0 where
   pub inside : at ≤ length d
   pub small : length d ≤ 65536
 
--- records t of a kind whose base is elementary and static
-pub record LeafIs (t : List ℕ) (x : Elementary) : Type 0 where
-  pub kind : FieldKind
-  pub is : KindIs t kind
-  pub base : kind.base ≡ Base.elementary x
+-- t is the record of a well-formed elementary kind that is static
+pub record LeafIs (t : Piece) (x : Elementary) : Type 0 where
+  pub code : t.kind ≡ elementary_code x
+  pub body_is : t.body.now ≡ elementary_body x
+  pub well : is_elementary x ≡ true
   pub static : is_open_ended x ≡ false
 
-abbrev pub SomeLeaf : List ℕ → Type 0
+abbrev pub SomeLeaf : Piece → Type 0
 SomeLeaf t = (x : Elementary) × LeafIs t x
 
-abbrev pub LeafEnds : List ℕ → List ℕ → ℕ → ℕ → Type 0
-LeafEnds t d at r = (x : Elementary) → LeafIs t x → r ≡ place_or d (leaf d x at)
+abbrev pub LeafEnds : Piece → List ℕ → ℕ → Option ℕ → Type 0
+LeafEnds t d at r = (x : Elementary) → LeafIs t x → r ≡ leaf d x at
 
--- records t of a kind whose base is static
-pub record BaseIs (t : List ℕ) (k : FieldKind) : Type 0 where
-  pub is : KindIs t k
-  pub static : is_dynamic (base_kind k.base) ≡ false
+-- records b of fields of static kinds
+pub record RowIs (b : List ℕ) (fs : Fields) : Type 0 where
+  pub is : FieldsAre b fs
+  pub static : any_dynamic (kinds_of fs) ≡ false
 
-abbrev pub SomeBase : List ℕ → Type 0
-SomeBase t = (k : FieldKind) × BaseIs t k
+abbrev pub SomeRow : List ℕ → Type 0
+SomeRow b = (fs : Fields) × RowIs b fs
 
-abbrev pub BaseEnds : List ℕ → List ℕ → ℕ → ℕ → Type 0
-BaseEnds t d at r = (k : FieldKind) → BaseIs t k → r ≡ place_or d (end_of d (base_kind k.base) at)
+abbrev pub RowEnds : List ℕ → List ℕ → ℕ → Option ℕ → Type 0
+RowEnds b d at r = (fs : Fields) → RowIs b fs → r ≡ in_row d (kinds_of fs) at
+
+-- t is the record of a static base
+abbrev pub BaseIs : Piece → Base → Type 0
+BaseIs t (elementary x) = LeafIs t x
+BaseIs t (tuple fs) = (t.kind ≡ 0x9) × RowIs t.body.now fs
+
+abbrev pub SomeBase : Piece → Type 0
+SomeBase t = (b : Base) × BaseIs t b
+
+abbrev pub BaseEnds : Piece → List ℕ → ℕ → Option ℕ → Type 0
+BaseEnds t d at r = (b : Base) → BaseIs t b → r ≡ end_of d (base_kind b) at
 
 -- the base so many times, as far as numbers are told apart
-abbrev pub RunEnds : List ℕ → List ℕ → ℕ → ℕ → ℕ → Type 0
-RunEnds t d at count r = (k : FieldKind) → BaseIs t k → (n : ℕ) → count ≡ capped n → r ≡ place_or d (repeated n (λ a. end_of d (base_kind k.base) a) at)
+abbrev pub RunEnds : Piece → List ℕ → ℕ → ℕ → Option ℕ → Type 0
+RunEnds t d at count r = (b : Base) → BaseIs t b → (n : ℕ) → count ≡ capped n → r ≡ repeated n (λ a. end_of d (base_kind b) a) at
 
 -- records t of a static kind
 pub record StaticIs (t : List ℕ) (k : FieldKind) : Type 0 where
@@ -75,16 +87,5 @@ abbrev pub SomeStatic : List ℕ → Type 0
 SomeStatic t = (k : FieldKind) × StaticIs t k
 
 -- so many values of it, one behind the other
-abbrev pub ManyEnd : List ℕ → List ℕ → ℕ → ℕ → ℕ → Type 0
-ManyEnd t d at n r = (k : FieldKind) → StaticIs t k → r ≡ place_or d (repeated n (λ a. end_of d (tree_of k) a) at)
-
--- records b of fields of static kinds
-pub record RowIs (b : List ℕ) (fs : Fields) : Type 0 where
-  pub is : FieldsAre b fs
-  pub static : any_dynamic (kinds_of fs) ≡ false
-
-abbrev pub SomeRow : List ℕ → Type 0
-SomeRow b = (fs : Fields) × RowIs b fs
-
-abbrev pub RowEnds : List ℕ → List ℕ → ℕ → ℕ → Type 0
-RowEnds b d at r = (fs : Fields) → RowIs b fs → r ≡ place_or d (in_row d (kinds_of fs) at)
+abbrev pub ManyEnd : List ℕ → List ℕ → ℕ → ℕ → Option ℕ → Type 0
+ManyEnd t d at n r = (k : FieldKind) → StaticIs t k → r ≡ repeated n (λ a. end_of d (tree_of k) a) at

@@ -54,7 +54,7 @@ pub fn next_line(strip: &[u8]) -> Option<usize>
     Some(n + brackets(&strip[n..])?)
 }
 
-// A `:`, and brackets directly behind it.
+// A `:`, and brackets directly behind it. Not one function with `brackets`: each hands the rest to another.
 #[tactic(auto, using(crate::proofs::Scanning::inside))]
 fn outputs(t: &[u8]) -> Option<usize>
     ensures { result ≡ outputs t.now }

@@ -5,8 +5,8 @@ ghost use Rattle.std.specs.Prelude.{IfSome, ◌≤◌, ◌<◌, ◌^◌};
 
 use arrayvec::ArrayVec;
 use model::{Answer, Call, Refused};
-use std::io;
 use std::io::Read;
+use std::{fmt, io};
 
 // What a lent buffer holds beforehand.
 pub const FILL: u8 = 0xA5;
@@ -86,6 +86,13 @@ pub fn read_input<const N: usize>(rt: &impl Input) -> io::Result<ArrayVec<u8, N>
     Ok(input)
 }
 
+// What has no room is left out.
+pub fn put<const N: usize>(out: &mut ArrayVec<u8, N>, bytes: &[u8]) {
+    for &byte in bytes {
+        let _ = out.try_push(byte);
+    }
+}
+
 // Rows.
 
 // Runs `show` on each line of an input. The last may end without a line feed.
@@ -112,6 +119,35 @@ pub fn rest<'a>(row: &'a [u8]) -> &'a [u8] {
     row.splitn(3, |&byte| byte == b' ').nth(2).unwrap_or(b"")
 }
 
+// Asking.
+
+// The calls that read a text: neither case is a missing one.
+#[derive(Clone, Copy, Debug, PartialEq, Eq)]
+pub enum Asked {
+    Declaration(Call),
+    Kind,
+}
+
+impl fmt::Display for Asked {
+    fn fmt<W: fmt::Write>(&self, f: &mut fmt::Formatter<W>) -> fmt::Result {
+        f.write_str(match self {
+            Asked::Declaration(Call::General) => "general",
+            Asked::Declaration(Call::Function) => "function",
+            Asked::Declaration(Call::Constructor) => "constructor",
+            Asked::Declaration(Call::Event) => "event",
+            Asked::Declaration(Call::Error) => "error",
+            Asked::Kind => "kind",
+        })
+    }
+}
+
+pub fn ask(asked: Asked, text: &[u8], out: &mut [u8]) -> Answer {
+    match asked {
+        Asked::Declaration(call) => declaration::read(call, text, out),
+        Asked::Kind => kind_call::parse_kind(text, out),
+    }
+}
+
 // The reading call of declarations that has a name.
 pub fn call_of(name: &[u8]) -> Option<Call> {
     match name {
@@ -124,7 +160,14 @@ pub fn call_of(name: &[u8]) -> Option<Call> {
     }
 }
 
-// Hex.
+pub fn asked_by(name: &[u8]) -> Option<Asked> {
+    if name == b"kind".as_slice() {
+        return Some(Asked::Kind);
+    }
+    call_of(name).map(Asked::Declaration)
+}
+
+// Hex: the library reads digits of characters alone.
 
 fn digit(c: u8) -> Option<u8>
     ensures { IfSome result (λ d. d ≤ 15) }

@@ -1,28 +1,18 @@
 -- What the functions of this crate answer, by the definitions.
 -- Assumes nothing.
-use Rattle.std.specs.Prelude.{◌≡◌, Bool, true, false, ◌||◌, List, [], ◌∷◌, ℕ, zero, suc, ◌+◌, ◌*◌, ◌-◌, ◌≤◌, ◌<◌, ltb, eqb, length, drop, Option, None, Some}
+use Rattle.std.specs.Prelude.{◌≡◌, Bool, true, false, ◌||◌, List, [], ◌∷◌, ℕ, ◌+◌, ◌*◌, ◌-◌, ◌≤◌, eqb, length, drop, Option, None, Some}
 use Rattle.kinds.specs.Bytes.{between, is_digit, is_word_byte}
-use Rattle.kinds.specs.Decimal.{at_most}
-use Rattle.model.specs.Text.{span, one, Char, char, no_char, is_tail, char_of, skip, word_length, run_byte, run_length}
+use Rattle.text.specs.declared.Char as found
+use Rattle.model.specs.Text.{span, one, Char, char, no_char, is_tail, skip, word_length, run_byte, run_length}
 
--- the six bits of a tail byte, and 64 if it is none
-unfoldable pub tail_of : ℕ → ℕ
-tail_of c = elim (is_tail c) [ true ↦ c - 128 | false ↦ 64 ]
+-- the six bits of a tail byte
+unfoldable pub tail_of : ℕ → Option ℕ
+tail_of c = elim (is_tail c) [ true ↦ Some (c - 128) | false ↦ None ]
 
--- a code point, or one that is too large where there is none
-unfoldable pub code_of : Option ℕ → ℕ
-code_of None = 0x110000
-code_of (Some v) = v
-
--- a character by its code point and length; the length is 0 where there is none
-unfoldable pub char_from : ℕ → ℕ → Char
-char_from v zero = no_char
-char_from v (suc n) = char v (suc n)
-
--- the character that a list begins with, which lies within it
-pub record CharIs (t : List ℕ) (v n : ℕ) : Type 0 where
-  pub same : char_from v n ≡ char_of t
-  pub inside : n ≤ length t
+-- a character as the definitions have it
+unfoldable pub char_from : Option found.Char → Char
+char_from None = no_char
+char_from (Some c) = char c.code c.len
 
 -- a byte, and 256 where there is none
 unfoldable pub byte_or_end : Option ℕ → ℕ
@@ -35,15 +25,9 @@ pub record Skipped (s : List ℕ) (at p : ℕ) : Type 0 where
   pub low : at ≤ p
   pub inside : p ≤ length s
 
--- one more digit: if n is the number x within the limit m, r is x * 10 + d within it
-pub record Pushed (m : ℕ) (n : Option ℕ) (d : ℕ) (r : Option ℕ) : Type 0 where
-  pub more : (x : ℕ) → n ≡ at_most m (Some x) → r ≡ at_most m (Some (x * 10 + d))
-
--- the value of a digit, and 10 for any other byte
-pub record DigitIs (c d : ℕ) : Type 0 where
-  pub same : is_digit c ≡ ltb d 10
-  pub value : d < 10 → d ≡ c - 48
-  pub small : d ≤ 10
+-- the value of a digit
+unfoldable pub digit_of : ℕ → Option ℕ
+digit_of c = elim (is_digit c) [ true ↦ Some (c - 48) | false ↦ None ]
 
 -- a-z, A-Z
 abbrev pub is_alphabetic : ℕ → Bool

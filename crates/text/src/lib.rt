@@ -1,86 +1,75 @@
-// Scanning texts: bytes, characters, blanks, words, runs and numbers. A scanner is handed a part of the text and answers a length.
+// Scanning texts: bytes, characters, blanks, words, runs and numbers; and the limits of a text. A scanner is handed a part of the text and answers
+// a length.
 #![tactic(auto)]
 
-ghost use Rattle.std.specs.Prelude.{◌≡◌, ◌+◌, ◌*◌, ◌/◌, ◌≤◌, ◌<◌, true, eqb, length, take, drop, ◌||◌, Some};
+ghost use Rattle.std.specs.Prelude.{◌≡◌, ◌+◌, ◌-◌, ◌*◌, ◌/◌, ◌≤◌, ◌<◌, eqb, length, take, drop, Some, IfSome};
 ghost use Rattle.std.specs.Int.Count.{count_trailing_zeros};
-ghost use Rattle.kinds.specs.Bytes.{all, between, is_ascii, is_digit, is_letter, is_word_byte, same};
-ghost use Rattle.kinds.specs.Decimal.{plain, number};
+ghost use Rattle.kinds.specs.Bytes.{is_digit, is_letter, is_word_byte, same};
+ghost use Rattle.kinds.specs.Decimal.{at_most, plain, number};
 ghost use Rattle.model.specs.Layout.{little_endian};
-ghost use Rattle.model.specs.Text.{span, one, tails, scalar, valid_length, is_blank, blank, skip, peek, word_length, run_byte, run_length};
+ghost use Rattle.model.specs.Text.{span, one, tails, scalar, char_of, valid_length, is_blank, blank, peek, word_length, run_byte, run_length};
 ghost use Rattle.model.specs.KindText.{starts};
-ghost use Rattle.text.specs.Found.{byte_or_end, is_alphabetic, is_plain, is_stop, flags, Begun, Runs, tail_of, code_of, char_from, CharIs, Skipped, Pushed, DigitIs};
+ghost use Rattle.text.specs.Found.{byte_or_end, is_alphabetic, is_plain, is_stop, flags, Begun, Runs, tail_of, char_from, Skipped, digit_of};
+ghost use Rattle.text.specs.Admitted.{AdmittedIs};
 
-// 0-9
-fn is_digit(c: u8) -> bool
-    ensures { result ≡ is_digit c }
-{
-    48 <= c && c <= 57
-}
+use model::{Refusal, Refused};
 
-fn is_lower(c: u8) -> bool
-    ensures { result ≡ between 97 122 c }
-{
-    97 <= c && c <= 122
-}
+// Eight bytes in a number: a byte times EACH is that byte eight times.
+const EACH: u64 = 0x0101010101010101;
 
-fn is_upper(c: u8) -> bool
-    ensures { result ≡ between 65 90 c }
-{
-    65 <= c && c <= 90
-}
+const HIGH_BITS: u64 = 0x80 * EACH;
 
-// a-z, A-Z: most bytes of a word.
-fn is_alphabetic(c: u8) -> bool
-    ensures { result ≡ is_alphabetic c }
-{
-    is_lower(c) || is_upper(c)
-}
+const LOW_BITS: u64 = 0x7F * EACH;
+
+// What tells an uppercase letter from the lowercase one.
+const CASE_BITS: u64 = 0x20 * EACH;
+
+// Added to a byte below 128, this sets the high bit above `z`.
+const ABOVE_Z: u64 = (0x7F - b'z') as u64 * EACH;
+
+// Where a byte below 128 is taken from this, the high bit is set below `a`.
+const BELOW_A: u64 = (0x7F + b'a') as u64 * EACH;
+
+// The same up to `,`.
+const UP_TO_COMMA: u64 = (0x80 + b',') as u64 * EACH;
 
 // a-z, A-Z, $, _
 pub fn is_letter(c: u8) -> bool
     ensures { result ≡ is_letter c }
 {
-    if is_alphabetic(c) {
-        return true;
-    }
-    c == 36 || c == 95
+    c.is_ascii_lowercase() || c.is_ascii_uppercase() || matches!(c, b'$' | b'_')
 }
 
 fn is_word_byte(c: u8) -> bool
     ensures { result ≡ is_word_byte c }
 {
-    is_digit(c) || is_letter(c)
+    c.is_ascii_digit() || is_letter(c)
 }
 
 // How many digits a part begins with.
 pub fn digits(t: &[u8]) -> usize
     ensures { (result ≡ span (one is_digit) t.now) × (result ≤ length t.now) }
 {
-    let mut i = 0;
-    while i < t.len() {
-        if is_digit(t[i]) {
-            i += 1;
-        } else {
-            return i;
-        }
-    }
-    i
+    t.iter()
+        .position(|c| !c.is_ascii_digit())
+        .unwrap_or(t.len())
 }
 
-// The bit of 128 of each of eight bytes that is none of a-z, A-Z: it has that bit itself or, without it and with the bit of 32, is below 97 or
+// The high bit of each of eight bytes that is none of a-z, A-Z: it has that bit itself or, without it and with the bit of 32, is below 97 or
 // above 122.
+#[tactic(auto, using(crate::proofs::Eights::eights))]
 fn others(v: u64) -> u64
     ensures { result ≡ flags is_alphabetic (little_endian 8 v) }
 {
-    let u = v & 0x7F7F7F7F7F7F7F7F | 0x2020202020202020;
-    (v | (u + 0x0505050505050505) | (0xE0E0E0E0E0E0E0E0 - u)) & 0x8080808080808080
+    let u = v & LOW_BITS | CASE_BITS;
+    (v | (u + ABOVE_Z) | (BELOW_A - u)) & HIGH_BITS
 }
 
-// How many of eight bytes come before the first whose bit of 128 is set.
+// How many of eight bytes come before the first whose high bit is set.
 fn lead(f: u64) -> usize
     ensures { (result ≡ count_trailing_zeros 64 f / 8) × (result ≤ 8) }
 {
-    (u64::trailing_zeros(f) / 8) as usize
+    (f.trailing_zeros() / 8) as usize
 }
 
 // How many of a-z, A-Z eight bytes begin with.
@@ -91,265 +80,205 @@ pub fn letters(t: &[u8], at: usize) -> usize
     lead(others(layout::get8(t, at)))
 }
 
+// How many bytes of words a part begins with.
+fn word_bytes(t: &[u8]) -> usize
+    ensures { (result ≡ span (one is_word_byte) t.now) × (result ≤ length t.now) }
+{
+    t.iter().position(|c| !is_word_byte(*c)).unwrap_or(t.len())
+}
+
 // How long the word is that a part begins with, of which c bytes are gone over.
+#[tactic(auto, using(crate::proofs::Beginnings::words))]
 fn word_from(t: &[u8], c: usize) -> usize
     requires { Begun t.now c }
     ensures { (result ≡ word_length t.now) × (result ≤ length t.now) }
 {
-    let mut i = c;
-    while i < t.len() {
-        if is_word_byte(t[i]) {
-            i += 1;
-        } else {
-            return i;
-        }
-    }
-    i
+    c + word_bytes(&t[c..])
 }
 
+// The same, byte by byte.
+#[tactic(auto, unfolding(model::specs::Text::word_length))]
 fn word_slowly(t: &[u8]) -> usize
     ensures { (result ≡ word_length t.now) × (result ≤ length t.now) }
 {
-    if t.len() == 0 {
-        return 0;
+    match t {
+        [c, rest @ ..] if is_letter(*c) => 1 + word_bytes(rest),
+        _ => 0,
     }
-    if is_letter(t[0]) {
-        return word_from(t, 1);
-    }
-    0
 }
 
 // How long the word is that a part begins with: the letters at its front are taken eight at a time.
+#[tactic(auto, using(crate::proofs::Beginnings::words))]
 pub fn word(t: &[u8]) -> usize
     ensures { (result ≡ word_length t.now) × (result ≤ length t.now) }
 {
     if 8 <= t.len() {
         let c = letters(t, 0);
+        if c == 8 && 16 <= t.len() {
+            return word_from(t, 8 + letters(t, 8));
+        }
         if 0 < c {
-            if c < 8 {
-                if is_word_byte(t[c]) {
-                    return word_from(t, c);
-                }
-                return c;
-            }
-            if 16 <= t.len() {
-                return word_from(t, 8 + letters(t, 8));
-            }
-            return word_from(t, 8);
+            return word_from(t, c);
         }
     }
     word_slowly(t)
 }
 
-// Whether two byte strings are equal: decided at unequal lengths or at the first unequal byte.
+// Whether two byte strings are equal: decided at unequal lengths or at the first bytes that differ.
 pub fn equal(a: &[u8], b: &[u8]) -> bool
     ensures { result ≡ same a.now b.now }
 {
-    if a.len() != b.len() {
-        return false;
-    }
-    let mut i = 0;
-    while i < a.len() {
-        if a[i] != b[i] {
-            return false;
-        }
-        i += 1;
-    }
-    true
+    a == b
 }
 
 // Whether t begins with w.
 pub fn begins(w: &[u8], t: &[u8]) -> bool
     ensures { result ≡ starts w.now t.now }
 {
-    let n = w.len();
-    if t.len() < n {
-        return false;
-    }
-    equal(w, &t[..n])
-}
-
-// Whether every byte is ASCII: by the largest of them, with no early exit.
-fn is_ascii(s: &[u8]) -> bool
-    ensures { result ≡ all is_ascii s.now }
-{
-    let mut most: u8 = 0;
-    let mut i = 0;
-    while i < s.len() {
-        if most < s[i] {
-            most = s[i];
-        }
-        i += 1;
-    }
-    most < 128
+    t.starts_with(w)
 }
 
 // Characters.
 
-// The six bits of a tail byte, which is the second or a later byte of a character, and 64 if it is none.
-fn tail(c: u8) -> u32
-    ensures { (result ≡ tail_of c) × (result ≤ 64) }
+// The six bits of a tail byte, which is the second or a later byte of a character.
+#[tactic(auto, unfolding(crate::specs::Found::tail_of))]
+fn tail(c: u8) -> Option<u32>
+    ensures { result ≡ tail_of c }
 {
-    if c < 128 {
-        return 64;
+    match c {
+        0x80..=0xBF => Some((c - 0x80) as u32),
+        _ => None,
     }
-    if 191 < c {
-        return 64;
-    }
-    (c - 128) as u32
 }
 
-// The code point that k tail bytes complete, or one that is too large.
-fn tails(k: usize, v: u32, t: &[u8]) -> u32
+// The code point that k tail bytes complete.
+#[tactic(auto, using(crate::proofs::Characters::tail_bytes))]
+fn tails(k: usize, v: u32, t: &[u8]) -> Option<u32>
     requires { (k ≤ 3) × (v < 32) }
-    ensures { result ≡ code_of (tails k v t.now) }
+    ensures { result ≡ tails k v t.now }
 {
+    let bytes = t.get(..k)?;
     let mut code = v;
-    let mut i = 0;
-    while i < k {
-        if t.len() <= i {
-            return 0x110000;
-        }
-        let d = tail(t[i]);
-        if d == 64 {
-            return 0x110000;
-        }
-        code = code * 64 + d;
-        i += 1;
+    for &c in bytes {
+        code = code * 64 + tail(c)?;
     }
-    code
+    Some(code)
 }
 
-// A character by its code point and length; the length is 0 where there is none.
-#[derive(Clone, Copy)]
+// A character by its code point and length.
+#[derive(Clone, Copy, Debug, PartialEq, Eq)]
 pub struct Char {
     pub code: u32,
     pub len: usize,
 }
 
-// A code point that wants n bytes since it is at least low: no overlong form, no surrogate, at most 10FFFF.
-fn scalar(n: usize, low: u32, code: u32) -> Char
-    requires { 0 < n }
-    ensures { char_from result.code result.len ≡ scalar n low (Some code) }
+// A character of len bytes, the first of which stands for lead: it wants so many since its code point is at least low. No overlong form, no surrogate,
+// at most 10FFFF.
+#[tactic(auto, unfolding(crate::specs::Found::char_from))]
+fn scalar(len: usize, low: u32, lead: u32, rest: &[u8]) -> Option<Char>
+    requires { (0 < len) × (len ≤ 4) × (lead < 32) }
+    ensures same { char_from result ≡ scalar len low (tails (len - 1) lead rest.now) }
+    ensures length { IfSome result (λ c. c.len ≡ len) }
 {
-    if code < low {
-        return Char { code, len: 0 };
+    let code = tails(len - 1, lead, rest)?;
+    match code {
+        0xD800..=0xDFFF => None,
+        0..=0x10FFFF if low <= code => Some(Char { code, len }),
+        _ => None,
     }
-    if 0x10FFFF < code {
-        return Char { code, len: 0 };
-    }
-    if code < 0xD800 {
-        return Char { code, len: n };
-    }
-    if code <= 0xDFFF {
-        return Char { code, len: 0 };
-    }
-    Char { code, len: n }
 }
 
-// The character that a part begins with.
-fn char_of(t: &[u8]) -> Char
-    ensures { CharIs t.now result.code result.len }
+// The character that a part begins with. Inlined, so that an ASCII byte, which most are, costs no call.
+#[tactic(auto, using(crate::proofs::Characters::within), unfolding(crate::specs::Found::char_from, model::specs::Text::char_of))]
+#[inline(always)]
+fn char_of(t: &[u8]) -> Option<Char>
+    ensures same { char_from result ≡ char_of t.now }
+    ensures inside { IfSome result (λ c. (0 < c.len) × (c.len ≤ length t.now)) }
 {
-    if t.len() == 0 {
-        return Char { code: 0, len: 0 };
-    }
-    let a = t[0];
-    if a < 0x80 {
-        return Char {
+    let (&a, rest) = t.split_first()?;
+    match a {
+        0..=0x7F => Some(Char {
             code: a as u32,
             len: 1,
-        };
+        }),
+        0xC0..=0xDF => scalar(2, 0x80, (a - 0xC0) as u32, rest),
+        0xE0..=0xEF => scalar(3, 0x800, (a - 0xE0) as u32, rest),
+        0xF0..=0xF7 => scalar(4, 0x10000, (a - 0xF0) as u32, rest),
+        _ => None,
     }
-    if a < 0xC0 {
-        return Char { code: 0, len: 0 };
-    }
-    if a < 0xE0 {
-        return scalar(2, 0x80, tails(1, (a - 0xC0) as u32, &t[1..]));
-    }
-    if a < 0xF0 {
-        return scalar(3, 0x800, tails(2, (a - 0xE0) as u32, &t[1..]));
-    }
-    if a < 0xF8 {
-        return scalar(4, 0x10000, tails(3, (a - 0xF0) as u32, &t[1..]));
-    }
-    Char { code: 0, len: 0 }
 }
 
 // "A blank is a character with Unicode White_Space".
 fn is_blank(code: u32) -> bool
     ensures { result ≡ is_blank code }
 {
-    match code {
+    matches!(
+        code,
         9..=13
-        | 32
-        | 0x85
-        | 0xA0
-        | 0x1680
-        | 0x2000..=0x200A
-        | 0x2028..=0x2029
-        | 0x202F
-        | 0x205F
-        | 0x3000 => true,
-        _ => false,
+            | 32
+            | 0x85
+            | 0xA0
+            | 0x1680
+            | 0x2000..=0x200A
+            | 0x2028..=0x2029
+            | 0x202F
+            | 0x205F
+            | 0x3000
+    )
+}
+
+// The length of the blank that a part begins with, whatever it is, 0 if none: what `blank` promises.
+#[tactic(auto, unfolding(model::specs::Text::blank, crate::specs::Found::char_from))]
+fn any_blank(t: &[u8]) -> usize
+    ensures { (result ≡ blank t.now) × (result ≤ length t.now) }
+{
+    match char_of(t) {
+        Some(c) if is_blank(c.code) => c.len,
+        _ => 0,
     }
 }
 
-// The length of the blank that a part begins with, 0 if none.
+// The same, quick and inlined where the first byte is ASCII, as most are.
+#[tactic(auto, unfolding(model::specs::Text::blank, model::specs::Text::char_of))]
+#[inline(always)]
 pub fn blank(t: &[u8]) -> usize
     ensures { (result ≡ blank t.now) × (result ≤ length t.now) }
 {
-    if t.len() == 0 {
-        return 0;
+    match t {
+        [b'\t'..=b'\r' | b' ', ..] => 1,
+        [] | [0..=0x7F, ..] => 0,
+        _ => any_blank(t),
     }
-    let a = t[0];
-    if a < 128 {
-        if is_blank(a as u32) {
-            return 1;
-        }
-        return 0;
-    }
-    let c = char_of(t);
-    if is_blank(c.code) { c.len } else { 0 }
 }
 
-// How far the blanks reach that a part begins with, whatever they are.
+// How far the blanks reach that a part begins with, whatever they are. Out of line, so that the quick cases stay small. A loop over what is left: a
+// blank may take several bytes.
+#[inline(never)]
 fn blanks_slowly(t: &[u8]) -> usize
     ensures { (result ≡ span blank t.now) × (result ≤ length t.now) }
 {
-    let mut i = 0;
-    while i < t.len() {
-        let n = blank(&t[i..]);
-        if n == 0 {
-            return i;
-        }
-        i += n;
+    let mut left = t;
+    while let n @ 1.. = blank(left) {
+        left = &left[n..];
     }
-    i
+    t.len() - left.len()
 }
 
-// The same, quick where no blank or one space stands there. The slow scanner is called at two places, since the compiler would inline it at one.
+// The same, quick where no blank or one space stands there.
+#[tactic(auto, using(crate::proofs::Skipping::skipping))]
 pub fn blanks(t: &[u8]) -> usize
     ensures { (result ≡ span blank t.now) × (result ≤ length t.now) }
 {
-    if t.len() == 0 {
-        return 0;
+    match t {
+        [] | [b'!'..=0x7F, ..] => 0,
+        [b' ', b'!'..=0x7F, ..] => 1,
+        [b' ', rest @ ..] => 1 + blanks_slowly(rest),
+        _ => blanks_slowly(t),
     }
-    let c = t[0];
-    if b' ' < c && c < 0x80 {
-        return 0;
-    }
-    if c == b' ' && 1 < t.len() {
-        let d = t[1];
-        if b' ' < d && d < 0x80 {
-            return 1;
-        }
-        return 1 + blanks_slowly(&t[1..]);
-    }
-    blanks_slowly(t)
 }
 
 // The place behind the blanks at a place.
+#[tactic(auto, using(crate::proofs::Skipping::places))]
 pub fn skip(s: &[u8], at: usize) -> usize
     requires { at ≤ length s.now }
     ensures { Skipped s.now at result }
@@ -358,78 +287,61 @@ pub fn skip(s: &[u8], at: usize) -> usize
 }
 
 // The byte at a place, none at the end.
-#[tactic(auto, using(crate::proofs::Skipping::skipping))]
+#[tactic(auto, using(crate::proofs::Skipping::places))]
 pub fn peek(s: &[u8], at: usize) -> Option<u8>
     ensures { byte_or_end result ≡ peek s.now at }
 {
     s.get(at).copied()
 }
 
-// The length of the longest valid prefix.
+// The length of the longest valid prefix. A loop over what is left: a character may take several bytes.
 pub fn valid_length(s: &[u8]) -> usize
     ensures { (result ≡ valid_length s.now) × (result ≤ length s.now) }
 {
-    if is_ascii(s) {
+    if s.is_ascii() {
         return s.len();
     }
-    let mut i = 0;
-    while i < s.len() {
-        let c = char_of(&s[i..]);
-        let n = c.len;
-        if n == 0 {
-            return i;
-        }
-        i += n;
+    let mut left = s;
+    while let Some(c) = char_of(left) {
+        left = &left[c.len..];
     }
-    i
+    s.len() - left.len()
 }
 
-// Whether a run goes on at a place.
-fn in_run(t: &[u8], i: usize) -> bool
-    requires { i < length t.now }
-    ensures { result ≡ eqb (run_byte (drop i t.now)) 1 }
+// Whether a run goes on where a part begins. ASCII above `,`, as most of its bytes are, is tested first: by a guard, since the compiler asks for
+// the bytes of patterns in an order of its own.
+#[tactic(auto, using(crate::proofs::Skipping::running))]
+fn in_run(t: &[u8]) -> bool
+    ensures { result ≡ eqb (run_byte t.now) 1 }
 {
-    let c = t[i];
-    if 44 < c && c < 128 {
-        return true;
+    match t {
+        [c, ..] if b',' < *c && c.is_ascii() => true,
+        [] | [b',' | b')' | b' ', ..] => false,
+        _ => blank(t) == 0,
     }
-    if c == 44 {
-        return false;
-    }
-    if c == 41 {
-        return false;
-    }
-    if c == 32 {
-        return false;
-    }
-    if 32 < c && c < 128 {
-        return true;
-    }
-    blank(&t[i..]) == 0
 }
 
-// How long the run is that a part begins with, of which c bytes are gone over.
+// How long the run is that a part begins with, of which c bytes are gone over. Out of line, so that the quick case stays small. A loop over what is
+// left: a blank that ends the run may take several bytes.
+#[inline(never)]
 fn run_from(t: &[u8], c: usize) -> usize
     requires { Runs t.now c }
     ensures { (result ≡ run_length t.now) × (result ≤ length t.now) }
 {
-    let mut i = c;
-    while i < t.len() {
-        if in_run(t, i) {
-            i += 1;
-        } else {
-            return i;
-        }
+    let mut left = &t[c..];
+    while in_run(left) {
+        left = &left[1..];
     }
-    i
+    t.len() - left.len()
 }
 
-// The bit of 128 of each of eight bytes that is not plain: ASCII above `,`.
+// The high bit of each of eight bytes that is not plain: ASCII above `,`.
+#[tactic(auto, using(crate::proofs::Eights::eights))]
 fn stops(v: u64) -> u64
     ensures { result ≡ flags is_plain (little_endian 8 v) }
 {
-    let u = v & 0x7F7F7F7F7F7F7F7F;
-    (v | (0xACACACACACACACAC - u)) & 0x8080808080808080
+    let u = v & LOW_BITS;
+    (v | (UP_TO_COMMA - u)) & HIGH_BITS
 }
 
 // How many plain bytes eight bytes begin with.
@@ -444,94 +356,90 @@ fn plains(t: &[u8], at: usize) -> usize
 fn is_stop(c: u8) -> bool
     ensures { result ≡ is_stop c }
 {
-    if c == 44 {
-        return true;
-    }
-    if c == 41 {
-        return true;
-    }
-    c == 32
+    matches!(c, b',' | b')' | b' ')
 }
 
 // How long the run is that a part begins with: up to a blank, `,` or `)`. Its first eight bytes are taken at once.
+#[tactic(auto, using(crate::proofs::Beginnings::runs))]
 pub fn run(t: &[u8]) -> usize
     ensures { (result ≡ run_length t.now) × (result ≤ length t.now) }
 {
-    if 8 <= t.len() {
-        let c = plains(t, 0);
-        if c < 8 {
-            if is_stop(t[c]) {
-                return c;
-            }
-        }
-        return run_from(t, c);
+    if t.len() < 8 {
+        return run_from(t, 0);
     }
-    run_from(t, 0)
+    let c = plains(t, 0);
+    if c < 8 && is_stop(t[c]) {
+        return c;
+    }
+    run_from(t, c)
 }
 
 // Numbers.
 
 // One more digit behind a number, absent where the limit is passed.
-fn push(limit: u64, n: Option<u64>, d: u64) -> Option<u64>
-    requires { d < 10 }
-    ensures { Pushed limit n d result }
+fn push(limit: u64, n: u64, d: u64) -> Option<u64>
+    ensures { result ≡ at_most limit (Some (n * 10 + d)) }
 {
-    match n {
-        Some(v) => {
-            if limit < d {
-                return None;
-            }
-            if (limit - d) / 10 < v {
-                return None;
-            }
-            Some(v * 10 + d)
-        }
-        None => None,
-    }
+    let more = n.checked_mul(10)?.checked_add(d)?;
+    (more <= limit).then_some(more)
 }
 
-// The value of a digit, and 10 for any other byte.
-fn digit(c: u8) -> u64
-    ensures { DigitIs c result }
+// The value of a digit.
+#[tactic(auto, unfolding(crate::specs::Found::digit_of))]
+fn digit(c: u8) -> Option<u64>
+    ensures { result ≡ digit_of c }
 {
-    if c < 48 {
-        return 10;
+    match c {
+        b'0'..=b'9' => Some((c - b'0') as u64),
+        _ => None,
     }
-    if 57 < c {
-        return 10;
-    }
-    (c - 48) as u64
 }
 
 // Digits alone, with a value of at most the limit; leading zeros do not count.
+#[tactic(auto, using(crate::proofs::Numbers::numbers))]
 pub fn plain(limit: u64, t: &[u8]) -> Option<u64>
     ensures { result ≡ plain limit t.now }
 {
-    if t.len() == 0 {
+    if t.is_empty() {
         return None;
     }
-    let mut n = Some(0);
-    let mut i = 0;
-    while i < t.len() {
-        let d = digit(t[i]);
-        if d == 10 {
-            return None;
-        }
-        n = push(limit, n, d);
-        i += 1;
+    let mut n = 0;
+    for &c in t {
+        n = push(limit, n, digit(c)?)?;
     }
-    n
+    Some(n)
 }
 
 // A number in plain decimal, with a value of at most the limit: no sign, and no `0` in front of more.
+#[tactic(auto, unfolding(kinds::specs::Decimal::number))]
 pub fn number(limit: u64, t: &[u8]) -> Option<u64>
     ensures { result ≡ number limit t.now }
 {
-    if t.len() < 2 {
-        return plain(limit, t);
+    match t {
+        [b'0', _, ..] => None,
+        _ => plain(limit, t),
     }
-    if t[0] == b'0' {
-        return None;
+}
+
+// Limits.
+
+// "over 4,096 bytes" is too long
+const LONGEST_TEXT: usize = 4096;
+
+// Whether a text is read at all: the limits that come before any reading.
+#[tactic(auto, unfolding(crate::specs::Admitted::refused_first))]
+pub fn admit(text: &[u8]) -> Result<(), Refused>
+    ensures { AdmittedIs text.now result }
+{
+    if LONGEST_TEXT < text.len() {
+        return Err(Refusal::TooLong.into());
     }
-    plain(limit, t)
+    let position = valid_length(text);
+    if position < text.len() {
+        return Err(Refused {
+            refusal: Refusal::NotUtf8,
+            position,
+        });
+    }
+    Ok(())
 }

@@ -173,7 +173,7 @@ struct Peeled {
     suffix: Suffix,
 }
 
-// The last `[`: the search ends at its first hit from the right.
+// The last `[`: the search ends at its first hit from the right. A loop, since the library's iterators over slices have no `rposition`.
 fn last_bracket(t: &[u8]) -> Option<usize>
     ensures { LastIs t.now result }
 {
@@ -205,7 +205,7 @@ pub struct Run<'a> {
     pub len: usize,
 }
 
-// `ValueKind::from_str`, for texts that do not begin with `(`.
+// `ValueKind::from_str`, for texts that do not begin with `(`. A loop over what is left of the text, from behind.
 pub fn from_str(t: &[u8]) -> Result<Run<'_>, Refusal>
     requires { length t.now ≤ 4096 }
     ensures { RunIs t.now result }
@@ -295,7 +295,7 @@ fn first_suffix(t: &[u8]) -> Option<First<'_>>
     })
 }
 
-// Writes the records of the suffixes that a text is.
+// Writes the records of the suffixes that a text is: a loop over what is left of it.
 fn write_suffixes(t: &[u8], out: &mut [u8], o: usize)
     requires { SuffixesAt t.now o out.old }
     ensures { SuffixesPut t.now o out.old out.new }

@@ -1,3 +1,2 @@
 pub mod Caps
-pub mod Numbers
-pub mod Tests
+pub mod Words

@@ -1,19 +1,25 @@
 // Words in call data: whether what stands at a place is as the encoder sets it, and where it ends. Nothing here knows of records.
+// A part of the data stays a place in them: heads say where parts stand, and the definitions of crates/encoding/specs/Judge.antt are in places.
 #![tactic(auto)]
 
 ghost use Rattle.std.specs.Prelude.{◌≡◌, true, ◌&&◌, ◌+◌, ◌-◌, ◌/◌, ◌≤◌, ◌<◌, leb, length, take, drop};
 ghost use Rattle.kinds.specs.Bytes.{same};
 ghost use Rattle.kinds.specs.Kind.{bits, octets, is_bit_width, is_byte_length, int, uint, fixed_bytes, address, bool, function};
 ghost use Rattle.encoding.specs.Words.{word, whole_words};
-ghost use Rattle.encoding.specs.Judge.{be_value, all_are, sign_byte, word_at, has_word, string_at, leaf};
-ghost use Rattle.words.specs.Places.{capped, place_or};
+ghost use Rattle.encoding.specs.Judge.{be_value, all_are, sign_byte, word_at, has_word, tested, string_at, leaf};
+ghost use Rattle.words.specs.Places.{capped};
 
-// The bytes of a word.
+// The bytes of a word, and where its last one stands.
 const WORD: usize = 32;
 
-// Numbers up to the limit are told apart; one more stands for every greater one.
-const LIMIT: usize = 65536;
+const LAST: usize = WORD - 1;
 
+// A byte is so many bits, and has so many values.
+const BYTE_BITS: usize = 8;
+
+const BYTE_VALUES: usize = 256;
+
+// A capped number, not an Option: numbers up to 65,536 are told apart, and this one, the next, stands for every greater one.
 const OVER: usize = 65537;
 
 // An address is a number of so many bits, a function a string of so many bytes.
@@ -21,20 +27,17 @@ const ADDRESS_BITS: usize = 160;
 
 const FUNCTION_BYTES: usize = 24;
 
-fn wide(x: u8) -> usize
-    ensures { (result ≡ x) × (result < 256) }
-{
-    x as usize
-}
+// The greatest number that is a bool: true.
+const TRUE: u8 = 1;
+
+// The first byte of a negative number is this one or a greater one.
+const NEGATIVE: u8 = 0x80;
 
 // A number, as far as it is told apart.
 pub fn cap(n: usize) -> usize
     ensures { result ≡ capped n }
 {
-    if LIMIT < n {
-        return OVER;
-    }
-    n
+    n.min(OVER)
 }
 
 // Whether n bytes stand at a place.
@@ -45,60 +48,45 @@ pub fn has(d: &[u8], at: usize, n: usize) -> bool
     n <= d.len() - at
 }
 
-// The answer where something is not as the encoder sets it: a place behind the data.
-pub fn none(d: &[u8]) -> usize
-    ensures { result ≡ length d.now + 1 }
-{
-    d.len() + 1
-}
-
 // The number of the word at a place, capped.
+#[tactic(auto, using(crate::proofs::Words::words))]
 pub fn number_at(d: &[u8], at: usize) -> usize
     requires { at + 32 ≤ length d.now }
     ensures { (result ≡ capped (be_value (word_at d.now at))) × (result ≤ 65537) }
 {
     let mut v = 0;
-    let mut i = 0;
-    while i < WORD {
-        v = cap(v * 256 + wide(d[at + i]));
-        i += 1;
+    for &b in &d[at..at + WORD] {
+        v = cap(v * BYTE_VALUES + usize::from(b));
     }
     v
 }
 
 // Whether the word of n stands at a place.
+#[tactic(auto, using(crate::proofs::Words::words))]
 pub fn is_number(d: &[u8], at: usize, n: usize) -> bool
     requires { (at ≤ length d.now) × (n ≤ 65536) }
     ensures { result ≡ (has_word d.now at && same (word_at d.now at) (word n)) }
 {
-    if d.len() - at < WORD {
-        return false;
-    }
-    number_at(d, at) == n
+    has(d, at, WORD) && number_at(d, at) == n
 }
 
 // Whether every byte of a part is c.
 fn all_are(t: &[u8], c: u8) -> bool
     ensures { result ≡ all_are c t.now }
 {
-    let mut i = 0;
-    while i < t.len() {
-        if t[i] != c {
-            return false;
-        }
-        i += 1;
-    }
-    true
+    t.iter().all(|b| *b == c)
 }
 
-// Whether every byte of a word is c, from one of them up to another.
-fn padding(d: &[u8], at: usize, from: usize, to: usize, c: u8) -> bool
-    requires { (at + 32 ≤ length d.now) × (from ≤ to) × (to ≤ 32) }
-    ensures { result ≡ all_are c (take (to - from) (drop from (word_at d.now at))) }
+// A word whose bytes from one of them up to another are all c.
+#[tactic(auto, using(crate::proofs::Words::parts))]
+fn padded(d: &[u8], at: usize, from: usize, to: usize, c: u8) -> Option<usize>
+    requires { (at ≤ length d.now) × (from ≤ to) × (to ≤ 32) }
+    ensures { result ≡ tested d.now (λ w. all_are c (take (to - from) (drop from w))) at }
 {
-    let p = at + from;
-    let q = at + to;
-    all_are(&d[p..q], c)
+    if !has(d, at, WORD) {
+        return None;
+    }
+    all_are(&d[at + from..at + to], c).then_some(at + WORD)
 }
 
 // How many bytes stand in front of a number of so many bits.
@@ -106,86 +94,70 @@ fn lead(width: usize) -> usize
     requires { is_bit_width width ≡ true }
     ensures { (result ≡ 32 - width / 8) × (result < 32) }
 {
-    WORD - width / 8
+    WORD - width / BYTE_BITS
 }
 
 // What they are by the number's first byte.
+#[tactic(auto, unfolding(encoding::specs::Judge::sign_byte))]
 fn sign(c: u8) -> u8
     ensures { result ≡ sign_byte c }
 {
-    if c < 0x80 {
-        return 0;
+    match c {
+        NEGATIVE.. => u8::MAX,
+        _ => 0,
     }
-    0xFF
 }
 
-pub fn int_word(d: &[u8], at: usize, width: usize) -> usize
+#[tactic(auto, using(crate::proofs::Words::words), unfolding(encoding::specs::Judge::leaf))]
+pub fn int_word(d: &[u8], at: usize, width: usize) -> Option<usize>
     requires { (at ≤ length d.now) × (is_bit_width width ≡ true) }
-    ensures { result ≡ place_or d.now (leaf d.now (int (bits width)) at) }
+    ensures { result ≡ leaf d.now (int (bits width)) at }
 {
-    if d.len() - at < WORD {
-        return none(d);
-    }
-    let n = lead(width);
-    if padding(d, at, 0, n, sign(d[at + n])) {
-        return at + WORD;
-    }
-    none(d)
+    let lead = lead(width);
+    let first = d.get(at + lead)?;
+    padded(d, at, 0, lead, sign(*first))
 }
 
-pub fn uint_word(d: &[u8], at: usize, width: usize) -> usize
+#[tactic(auto, using(crate::proofs::Words::words), unfolding(encoding::specs::Judge::leaf))]
+pub fn uint_word(d: &[u8], at: usize, width: usize) -> Option<usize>
     requires { (at ≤ length d.now) × (is_bit_width width ≡ true) }
-    ensures { result ≡ place_or d.now (leaf d.now (uint (bits width)) at) }
+    ensures { result ≡ leaf d.now (uint (bits width)) at }
 {
-    if d.len() - at < WORD {
-        return none(d);
-    }
-    if padding(d, at, 0, lead(width), 0) {
-        return at + WORD;
-    }
-    none(d)
+    padded(d, at, 0, lead(width), 0)
 }
 
-pub fn address_word(d: &[u8], at: usize) -> usize
+#[tactic(auto, unfolding(encoding::specs::Judge::leaf, encoding::specs::Judge::is_word_of))]
+pub fn address_word(d: &[u8], at: usize) -> Option<usize>
     requires { at ≤ length d.now }
-    ensures { result ≡ place_or d.now (leaf d.now address at) }
+    ensures { result ≡ leaf d.now address at }
 {
     uint_word(d, at, ADDRESS_BITS)
 }
 
-pub fn bool_word(d: &[u8], at: usize) -> usize
+#[tactic(auto, using(crate::proofs::Words::words), unfolding(encoding::specs::Judge::leaf))]
+pub fn bool_word(d: &[u8], at: usize) -> Option<usize>
     requires { at ≤ length d.now }
-    ensures { result ≡ place_or d.now (leaf d.now bool at) }
+    ensures { result ≡ leaf d.now bool at }
 {
-    if d.len() - at < WORD {
-        return none(d);
+    let last = d.get(at + LAST)?;
+    if TRUE < *last {
+        return None;
     }
-    let n = WORD - 1;
-    if 1 < d[at + n] {
-        return none(d);
-    }
-    if padding(d, at, 0, n, 0) {
-        return at + WORD;
-    }
-    none(d)
+    padded(d, at, 0, LAST, 0)
 }
 
-pub fn bytes_word(d: &[u8], at: usize, n: usize) -> usize
+#[tactic(auto, using(crate::proofs::Words::words), unfolding(encoding::specs::Judge::leaf))]
+pub fn bytes_word(d: &[u8], at: usize, n: usize) -> Option<usize>
     requires { (at ≤ length d.now) × (is_byte_length n ≡ true) }
-    ensures { result ≡ place_or d.now (leaf d.now (fixed_bytes (octets n)) at) }
+    ensures { result ≡ leaf d.now (fixed_bytes (octets n)) at }
 {
-    if d.len() - at < WORD {
-        return none(d);
-    }
-    if padding(d, at, n, WORD, 0) {
-        return at + WORD;
-    }
-    none(d)
+    padded(d, at, n, WORD, 0)
 }
 
-pub fn function_word(d: &[u8], at: usize) -> usize
+#[tactic(auto, unfolding(encoding::specs::Judge::leaf, encoding::specs::Judge::is_word_of))]
+pub fn function_word(d: &[u8], at: usize) -> Option<usize>
     requires { at ≤ length d.now }
-    ensures { result ≡ place_or d.now (leaf d.now function at) }
+    ensures { result ≡ leaf d.now function at }
 {
     bytes_word(d, at, FUNCTION_BYTES)
 }
@@ -195,27 +167,23 @@ fn whole_words(n: usize) -> usize
     requires { n ≤ 65537 }
     ensures { result ≡ whole_words n }
 {
-    (n + (WORD - 1)) / WORD * WORD
+    n.div_ceil(WORD) * WORD
 }
 
 // A length, so many bytes, and zeros up to the next whole word. The data are shorter than every length that is not told apart.
-pub fn string(d: &[u8], at: usize) -> usize
+#[tactic(auto, using(crate::proofs::Words::words))]
+pub fn string(d: &[u8], at: usize) -> Option<usize>
     requires { (at ≤ length d.now) × (length d.now ≤ 65536) }
-    ensures { result ≡ place_or d.now (string_at d.now at) }
+    ensures { result ≡ string_at d.now at }
 {
-    if d.len() - at < WORD {
-        return none(d);
+    if !has(d, at, WORD) {
+        return None;
     }
+    let from = at + WORD;
     let n = number_at(d, at);
     let m = whole_words(n);
-    let from = at + WORD;
-    if d.len() - from < m {
-        return none(d);
+    if !has(d, from, m) {
+        return None;
     }
-    let p = from + n;
-    let q = from + m;
-    if all_are(&d[p..q], 0) {
-        return q;
-    }
-    none(d)
+    all_are(&d[from + n..from + m], 0).then_some(from + m)
 }

@@ -1,26 +1,28 @@
-use Rattle.abi.proofs.Calls.{no_kind_lem, is_declared, constructor-kind, field-kind, ill_lone}
+use Rattle.std.proofs.Common.{ap}
+use Rattle.std.specs.Prelude.{Err}
+use Rattle.abi.proofs.Calls.{no_kind_text, kind_text_ends}
 use Rattle.abi.proofs.kind_text.Goals as goal
 
-pub returns-in-Declared-clause-says : goal.returns-in-Declared-clause-says
-returns-in-Declared-clause-says c = (no_kind_lem _ _ _ (is_declared _ _ c.check-c.ensures _ _ _ _ c.in-Declared.is).lone c.refused.ensures).0
+pub returns-in-Some-Field-clause-says : goal.returns-in-Some-Field-clause-says
+returns-in-Some-Field-clause-says c = (kind_text_ends _ _ _ _ (rw c.in-Some-Field.field-0-is at c.in-Some-Field.ensures).1 _ _ c.kind_line.ensures).0
 
-pub returns-in-Declared-clause-left : goal.returns-in-Declared-clause-left
-returns-in-Declared-clause-left c = (no_kind_lem _ _ _ (is_declared _ _ c.check-c.ensures _ _ _ _ c.in-Declared.is).lone c.refused.ensures).1
+pub returns-in-Some-Field-clause-left : goal.returns-in-Some-Field-clause-left
+returns-in-Some-Field-clause-left c = (kind_text_ends _ _ _ _ (rw c.in-Some-Field.field-0-is at c.in-Some-Field.ensures).1 _ _ c.kind_line.ensures).1
 
-pub returns-in-Constructor-clause-says : goal.returns-in-Constructor-clause-says
-returns-in-Constructor-clause-says c = (constructor-kind _ _ c.check-c.ensures c.in-Constructor.is _ _ c.refused-in-Constructor.ensures).0
+pub returns-in-Some-Declared-clause-says : goal.returns-in-Some-Declared-clause-says
+returns-in-Some-Declared-clause-says c = (no_kind_text _ _ _ (rw c.in-Some-Declared.field-0-is at c.in-Some-Declared.ensures).1 (ap Err c.into.ensures)).0
 
-pub returns-in-Constructor-clause-left : goal.returns-in-Constructor-clause-left
-returns-in-Constructor-clause-left c = (constructor-kind _ _ c.check-c.ensures c.in-Constructor.is _ _ c.refused-in-Constructor.ensures).1
+pub returns-in-Some-Declared-clause-left : goal.returns-in-Some-Declared-clause-left
+returns-in-Some-Declared-clause-left c = (no_kind_text _ _ _ (rw c.in-Some-Declared.field-0-is at c.in-Some-Declared.ensures).1 (ap Err c.into.ensures)).1
 
-pub returns-in-Field-clause-says : goal.returns-in-Field-clause-says
-returns-in-Field-clause-says c = (field-kind _ _ c.check-c.ensures _ _ c.in-Field.is _ _ _ c.kind_line.ensures).0
+pub returns-in-Some-Constructor-clause-says : goal.returns-in-Some-Constructor-clause-says
+returns-in-Some-Constructor-clause-says c = (no_kind_text _ _ _ (rw c.in-Some-Constructor.field-0-is at c.in-Some-Constructor.ensures).1 (ap Err c.into-in-Some-Constructor.ensures)).0
 
-pub returns-in-Field-clause-left : goal.returns-in-Field-clause-left
-returns-in-Field-clause-left c = (field-kind _ _ c.check-c.ensures _ _ c.in-Field.is _ _ _ c.kind_line.ensures).1
+pub returns-in-Some-Constructor-clause-left : goal.returns-in-Some-Constructor-clause-left
+returns-in-Some-Constructor-clause-left c = (no_kind_text _ _ _ (rw c.in-Some-Constructor.field-0-is at c.in-Some-Constructor.ensures).1 (ap Err c.into-in-Some-Constructor.ensures)).1
 
-pub returns-in-IllFormed-clause-says : goal.returns-in-IllFormed-clause-says
-returns-in-IllFormed-clause-says c = (no_kind_lem _ _ _ (ill_lone _ _ c.check-c.ensures c.in-IllFormed.is) c.refused-in-IllFormed.ensures).0
+pub returns-in-None-clause-says : goal.returns-in-None-clause-says
+returns-in-None-clause-says c = (no_kind_text _ _ _ c.in-None.ensures.1 (ap Err c.into-in-None.ensures)).0
 
-pub returns-in-IllFormed-clause-left : goal.returns-in-IllFormed-clause-left
-returns-in-IllFormed-clause-left c = (no_kind_lem _ _ _ (ill_lone _ _ c.check-c.ensures c.in-IllFormed.is) c.refused-in-IllFormed.ensures).1
+pub returns-in-None-clause-left : goal.returns-in-None-clause-left
+returns-in-None-clause-left c = (no_kind_text _ _ _ c.in-None.ensures.1 (ap Err c.into-in-None.ensures)).1

@@ -1,11 +1,13 @@
+use Rattle.std.proofs.Common.{ap}
+use Rattle.std.specs.Prelude.{Err}
 use Rattle.abi.proofs.Whole.{line-room, line-full, line-ends}
 use Rattle.abi.proofs.line.Goals as goal
 
-pub returns-then-text-length : goal.returns-then-text-length
-returns-then-text-length c = line-full _ _ _ _ _ c.refused.ensures c.if-text-length.true
+pub returns-then-text-name : goal.returns-then-text-name
+returns-then-text-name c = line-full _ _ _ _ (ap Err c.into.ensures) c.if-text-name.true
 
 pub write_line-requires : goal.write_line-requires
-write_line-requires c = line-room _ _ _ c.requires _ c.if-text-length.false
+write_line-requires c = line-room _ _ c.requires _ c.if-text-name.false
 
 pub returns : goal.returns
-returns c = line-ends _ _ _ _ _ _ c.if-text-length.false c.write_line.ensures
+returns c = line-ends _ _ _ c.if-text-name.false _ _ c.write_line.ensures

@@ -1,12 +1,8 @@
-use borrow.Author.Rules.{rules}
-use Rattle.abi.proofs.Stores.{storing}
+use Rattle.kinds.proofs.Decimal.{std-decimal}
 use Rattle.abi.proofs.write_decimal.Goals as goal
 
-pub loop-rest-init : goal.loop-rest-init
-loop-rest-init c = search (rules, storing)
-
-pub loop-rest-preserved : goal.loop-rest-preserved
-loop-rest-preserved c = search (rules, storing)
+pub write_word-requires : goal.write_word-requires
+write_word-requires c = rw (c.as_bytes.ensures.value, c.format.ensures.text, std-decimal _ c.ranges.v.fits) c.requires
 
 pub returns : goal.returns
-returns c = search (rules, storing)
+returns c = rw (c.as_bytes.ensures.value, c.format.ensures.text, std-decimal _ c.ranges.v.fits) at c.write_word.ensures

@@ -1,31 +1,34 @@
 use native.Mathlib.Omega.{arith}
 use lib.ListN.{length-set}
-use Rattle.abi.proofs.Leaves.{suffix-long, sized-value, sized-room, sized-asks, sized_inside, sized-length, sized-wrote, open_room, open_wrote}
+use Rattle.abi.proofs.Puts.{room-text, wrote-text}
+use Rattle.abi.proofs.Leaves.{sized-long, sized-least, sized-text, bare-text, number-room, closing, sized-put}
 use Rattle.abi.proofs.write_suffix.Goals as goal
 
-pub bounds-out-o : goal.bounds-out-o
-bounds-out-o c = omega (arith, sized-room _ _ _ _ c.requires c.in-10.is)
+pub bounds-out-0 : goal.bounds-out-0
+bounds-out-0 c = omega (arith, sized-least _ _ _ c.requires c.if-kind-eq-SIZED.true)
+
+pub slice_bounds-write_decimal-count : goal.slice_bounds-write_decimal-count
+slice_bounds-write_decimal-count c = rw length-set (omega (arith, sized-least _ _ _ c.requires c.if-kind-eq-SIZED.true))
+
+pub slice_bounds-write_decimal-start : goal.slice_bounds-write_decimal-start
+slice_bounds-write_decimal-start c = omega (arith, sized-least _ _ _ c.requires c.if-kind-eq-SIZED.true, length-set c.args.out.now 0 91)
 
 pub get8-requires : goal.get8-requires
-get8-requires c = omega (arith, suffix-long _ _ _ _ c.requires c.in-10.is)
+get8-requires c = omega (arith, sized-long _ _ _ c.requires c.if-kind-eq-SIZED.true)
 
-pub write_decimal-p-requires : goal.write_decimal-p-requires
-write_decimal-p-requires c = sized-asks _ _ _ _ c.requires _ c.in-10.is (sized-value _ _ _ _ c.requires _ c.in-10.is c.get8.ensures)
+pub write_decimal-n-requires : goal.write_decimal-n-requires
+write_decimal-n-requires c = number-room _ _ (room-text _ _ (sized-text _ _ _ c.requires c.if-kind-eq-SIZED.true _ c.get8.ensures) _ c.requires)
 
-pub bounds-out-p : goal.bounds-out-p
-bounds-out-p c = omega (arith, sized_inside _ _ _ _ c.requires _ _ c.in-10.is (sized-value _ _ _ _ c.requires _ c.in-10.is c.get8.ensures) c.write_decimal-p.ensures.1, sized-length _ _ _ _ c.requires _ 0 _ c.in-10.is (sized-value _ _ _ _ c.requires _ c.in-10.is c.get8.ensures) c.write_decimal-p.ensures.0)
+pub bounds-out-n : goal.bounds-out-n
+bounds-out-n c = closing _ _ (room-text _ _ (sized-text _ _ _ c.requires c.if-kind-eq-SIZED.true _ c.get8.ensures) _ c.requires) _ _ c.write_decimal-n.ensures
 
-pub overflow_add-result : goal.overflow_add-result
-overflow_add-result c = record { fits = omega (arith, sized_inside _ _ _ _ c.requires _ _ c.in-10.is (sized-value _ _ _ _ c.requires _ c.in-10.is c.get8.ensures) c.write_decimal-p.ensures.1) }
+pub write_word-requires : goal.write_word-requires
+write_word-requires c = room-text _ _ (bare-text _ _ _ c.requires c.if-kind-eq-SIZED.false) _ c.requires
 
-pub bounds-out-o-in_default : goal.bounds-out-o-in_default
-bounds-out-o-in_default c = omega (arith, open_room _ _ _ _ c.requires c.in_default.in_default-own.rest.1)
+pub returns-then-kind-eq-SIZED : goal.returns-then-kind-eq-SIZED
+returns-then-kind-eq-SIZED c =
+    let e = sized-text _ _ _ c.requires c.if-kind-eq-SIZED.true _ c.get8.ensures in
+    wrote-text _ _ e _ _ _ (sized-put _ _ (room-text _ _ e _ c.requires) _ _ c.write_decimal-n.ensures)
 
-pub bounds-out-o-in_default-2 : goal.bounds-out-o-in_default-2
-bounds-out-o-in_default-2 c = simp length-set (omega (arith, open_room _ _ _ _ c.requires c.in_default.in_default-own.rest.1))
-
-pub returns-in-10 : goal.returns-in-10
-returns-in-10 c = sized-wrote _ _ _ _ c.requires _ _ _ c.in-10.is (sized-value _ _ _ _ c.requires _ c.in-10.is c.get8.ensures) c.write_decimal-p.ensures.0 c.write_decimal-p.ensures.1
-
-pub returns-in_default : goal.returns-in_default
-returns-in_default c = open_wrote _ _ _ _ c.requires c.in_default.in_default-own.rest.1
+pub returns-else-kind-eq-SIZED : goal.returns-else-kind-eq-SIZED
+returns-else-kind-eq-SIZED c = wrote-text _ _ (bare-text _ _ _ c.requires c.if-kind-eq-SIZED.false) _ _ _ c.write_word.ensures

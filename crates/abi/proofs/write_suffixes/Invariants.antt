@@ -1,10 +1,9 @@
-use Prim.Native.Nat.{◌-◌}
 use lib.ListN.{length}
-use Rattle.abi.proofs.Runs.{SuffixesOut}
+use Rattle.abi.proofs.Walks.{SuffixesOut}
 use Rattle.abi.proofs.write_suffixes.Given as goal
 
-abbrev pub invariant-loop-at : goal.invariant-loop-at
-invariant-loop-at l = SuffixesOut l.b l.o l.initial.out l.at l.p l.out
+abbrev pub invariant-loop-left : goal.invariant-loop-left
+invariant-loop-left l = SuffixesOut l.b l.initial.out l.left l.n l.out
 
-abbrev pub decreases-loop-at : goal.decreases-loop-at
-decreases-loop-at l = length l.b - l.at
+abbrev pub decreases-loop-left : goal.decreases-loop-left
+decreases-loop-left l = length l.left

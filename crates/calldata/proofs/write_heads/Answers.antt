@@ -1,17 +1,21 @@
-use Rattle.calldata.proofs.Telling.{write_start, write_end, write_asks, write_room, write_next}
+use Rattle.calldata.proofs.Telling.{write-headed, write-named, write_asks, write_place, write_next, write_end}
 use Rattle.calldata.proofs.write_heads.Goals as goal
 
-pub loop-at-init : goal.loop-at-init
-loop-at-init c = write_start _ _ c.requires
+pub first-field-requires : goal.first-field-requires
+first-field-requires c = write-headed c.loop-left.invariant c.loop-left-test.ensures
+
+pub named-requires : goal.named-requires
+named-requires c = write-named c.loop-left.invariant c.loop-left-test.ensures c.first-field.ensures
 
 pub of_kind-requires : goal.of_kind-requires
-of_kind-requires c = write_asks _ _ _ _ _ c.loop-at.invariant c.loop-at-test.true _ c.kind_at-k.ensures
+of_kind-requires c = write_asks c.loop-left.invariant c.loop-left-test.ensures c.first-field.ensures c.named.ensures
 
-pub write_head-requires : goal.write_head-requires
-write_head-requires c = write_room _ _ _ _ _ c.loop-at.invariant c.loop-at-test.true _ c.kind_at-k.ensures
+pub write_head-n-requires : goal.write_head-n-requires
+write_head-n-requires c = (write_place c.loop-left.invariant c.loop-left-test.ensures c.first-field.ensures c.named.ensures).2
 
-pub loop-at-preserved : goal.loop-at-preserved
-loop-at-preserved c = write_next _ _ _ _ _ c.loop-at.invariant c.loop-at-test.true _ c.kind_at-k.ensures _ c.of_kind.ensures _ c.write_head.ensures
+pub loop-left-preserved : goal.loop-left-preserved
+loop-left-preserved c =
+    write_next c.loop-left.invariant c.loop-left-test.ensures c.first-field.ensures c.named.ensures c.of_kind.ensures _ _ c.write_head-n.ensures
 
 pub returns : goal.returns
-returns c = write_end _ _ _ _ _ c.loop-at.invariant c.loop-at-test.false
+returns c = write_end c.loop-left.invariant c.loop-left-test.ensures

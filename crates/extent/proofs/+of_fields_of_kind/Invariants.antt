@@ -1,4 +1,3 @@
-use Prim.Native.Nat.{◌-◌}
 use lib.ListN.{length}
 use Rattle.extent.proofs.Reaches.{Reached}
 use Rattle.extent.proofs.+of_fields_of_kind.Given as goal
@@ -9,8 +8,8 @@ decreases-of_fields l = length l.b.now
 abbrev pub decreases-of_kind : goal.decreases-of_kind
 decreases-of_kind l = length l.t.now
 
-abbrev pub invariant-of_fields-loop-at : goal.invariant-of_fields-loop-at
-invariant-of_fields-loop-at l = Reached l.b l.at l.e
+abbrev pub invariant-of_fields-loop-left : goal.invariant-of_fields-loop-left
+invariant-of_fields-loop-left l = Reached l.b l.left l.e
 
-abbrev pub decreases-of_fields-loop-at : goal.decreases-of_fields-loop-at
-decreases-of_fields-loop-at l = length l.b - l.at
+abbrev pub decreases-of_fields-loop-left : goal.decreases-of_fields-loop-left
+decreases-of_fields-loop-left l = length l.left

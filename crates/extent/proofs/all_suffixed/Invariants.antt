@@ -1,10 +1,9 @@
-use Prim.Native.Nat.{◌-◌}
 use lib.ListN.{length}
 use Rattle.extent.proofs.Reaches.{Wrapped}
 use Rattle.extent.proofs.all_suffixed.Given as goal
 
-abbrev pub invariant-loop-at : goal.invariant-loop-at
-invariant-loop-at l = Wrapped l.b l.initial.e l.at l.e
+abbrev pub invariant-loop-left : goal.invariant-loop-left
+invariant-loop-left l = Wrapped l.suffixes l.fn.base l.left l.e
 
-abbrev pub decreases-loop-at : goal.decreases-loop-at
-decreases-loop-at l = length l.b - l.at
+abbrev pub decreases-loop-left : goal.decreases-loop-left
+decreases-loop-left l = length l.left

@@ -2,4 +2,4 @@ use Rattle.full.proofs.Lines.{list-is}
 use Rattle.full.proofs.list_length.Goals as goal
 
 pub returns : goal.returns
-returns c = list-is _ _ c.requires _ c.extra.ensures
+returns c = list-is _ c.requires _ c.extra_fields.ensures

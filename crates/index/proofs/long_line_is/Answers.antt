@@ -1,4 +1,4 @@
-use Rattle.index.proofs.Repeating.{room-enough}
+use Rattle.index.proofs.Places.{room-enough}
 use Rattle.index.proofs.long_line_is.Goals as goal
 
 pub line_is-requires : goal.line_is-requires

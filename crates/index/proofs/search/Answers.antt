@@ -1,18 +1,24 @@
-use Rattle.index.proofs.Searching.{search_at, search_asks, search_hit, search_miss, search_end}
-use native.Mathlib.Omega.{arith}
+use Rattle.std.proofs.Common.{arith, rules, ap, length}
+use Rattle.index.proofs.Searching.{search_start, search_at, search_pass, search_record, search_hit, search_miss, search_end}
 use Rattle.index.proofs.search.Goals as goal
 
-pub function_at-compared-requires : goal.function_at-compared-requires
-function_at-compared-requires c = search_at _ _ _ _ _ c.loop-i-test.true c.requires
+pub loop-known-init : goal.loop-known-init
+loop-known-init c = ((tt, tt), tt, search_start _ _ _ c.into_iter-known-iterator.result c.requires (search rules) (search rules) (omega (arith, ap length c.as_slice.ensures.value, c.as_slice.ensures.fits)))
+
+pub function_at-requires : goal.function_at-requires
+function_at-requires c = search_at _ _ c.loop-known.known-iterator c.next.new.self _ c.next.ensures.steps _ c.loop-known.invariant.2 _ c.in-Some.is
+
+pub loop-known-preserved-in_default : goal.loop-known-preserved-in_default
+loop-known-preserved-in_default c = ((tt, tt), tt, search_pass _ _ c.loop-known.known-iterator c.next.new.self _ c.next.ensures.steps _ c.loop-known.invariant.2 _ c.in-Some.is c.in_default.ensures)
 
 pub is_sought-requires : goal.is_sought-requires
-is_sought-requires c = search_asks _ _ _ _ _ c.loop-i-test.true _ _ c.print-h.ensures c.requires
+is_sought-requires c = search_record _ _ c.loop-known.known-iterator c.next.new.self _ c.next.ensures.steps _ c.loop-known.invariant.2 _ c.in-Some.is _ c.in-Some-function_at.ensures
 
 pub returns-then-is_sought : goal.returns-then-is_sought
-returns-then-is_sought c = search_hit _ _ _ _ _ _ c.loop-i-test.true _ _ _ _ c.function_at-compared.ensures c.print-h.ensures c.is_sought.ensures c.loop-i.invariant.2 c.if-is_sought.true
+returns-then-is_sought c = search_hit _ _ c.loop-known.known-iterator c.next.new.self _ c.next.ensures.steps _ c.loop-known.invariant.2 _ c.in-Some.is _ c.in-Some-function_at.ensures _ _ c.print-print.ensures c.is_sought.ensures c.if-is_sought.true
 
-pub loop-i-preserved : goal.loop-i-preserved
-loop-i-preserved c = (omega arith, omega (arith, c.function_at-compared.ensures.most), search_miss _ _ _ _ _ _ c.loop-i-test.true _ _ _ _ c.function_at-compared.ensures c.print-h.ensures c.is_sought.ensures c.loop-i.invariant.2 c.if-is_sought.false)
+pub loop-known-preserved : goal.loop-known-preserved
+loop-known-preserved c = ((tt, tt), tt, search_miss _ _ c.loop-known.known-iterator c.next.new.self _ c.next.ensures.steps _ c.loop-known.invariant.2 _ c.in-Some.is _ c.in-Some-function_at.ensures _ _ c.print-print.ensures c.is_sought.ensures c.if-is_sought.false)
 
 pub returns : goal.returns
-returns c = search_end _ _ _ _ _ _ _ c.loop-i-test.false c.loop-i.invariant.2
+returns c = search_end _ _ c.loop-known.known-iterator c.next.new.self _ c.next.ensures.steps _ c.loop-known.invariant.2 c.in-None.is

@@ -8,4 +8,4 @@ pub returns-then-got-text : goal.returns-then-got-text
 returns-then-got-text g c = whole-more _ _ _ c.in-Ok.ensures c.if-got-text.true _ _ c.into-then-got-text.ensures
 
 pub returns : goal.returns
-returns g c = whole-read _ _ _ c.in-Ok.ensures c.if-got-text.false _ _ _ c.store.ensures
+returns g c = whole-read _ _ _ c.in-Ok.ensures c.if-got-text.false _ _ _ (c.deliver.ensures.says, c.deliver.ensures.left)

@@ -2,8 +2,7 @@ use mathlib.Core.Path.{◌≡◌, refl, ◌∙◌, ap}
 use lib.ListN.{length}
 use Rattle.kinds.specs.Decimal.{decimal}
 use native.Mathlib.Omega.{arith}
-use Rattle.kinds.proofs.Decimal.{decimal-short}
-use Rattle.message.proofs.Writing.{std-decimal}
+use Rattle.kinds.proofs.Decimal.{decimal-short, std-decimal}
 use Rattle.message.proofs.write_decimal.Goals as goal
 
 pub write-requires : goal.write-requires

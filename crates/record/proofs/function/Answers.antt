@@ -1,18 +1,10 @@
-use Rattle.record.proofs.Tops.{tops}
+use mathlib.Core.Path.{refl}
 use borrow.Author.Rules.{rules}
+use Rattle.record.proofs.Tops.{function-is}
 use Rattle.record.proofs.function.Goals as goal
 
-pub returns-then-p-eq0 : goal.returns-then-p-eq0
-returns-then-p-eq0 c = search (rules, tops)
-
-pub returns-then-inputs-eq0 : goal.returns-then-inputs-eq0
-returns-then-inputs-eq0 c = search (rules, tops)
-
-pub returns-then-outputs-eq0 : goal.returns-then-outputs-eq0
-returns-then-outputs-eq0 c = search (rules, tops)
-
-pub returns-then-outputs-b : goal.returns-then-outputs-b
-returns-then-outputs-b c = search (rules, tops)
-
 pub returns : goal.returns
-returns c = search (rules, tops)
+returns c =
+    let stated = c.in_ok-stated.ensures in
+    let inputs = c.in_ok-inputs.ensures in
+    (function-is _ c.in_ok-stated.stated stated c.in_ok-name.name c.in_ok-name.ensures c.in_ok-inputs.inputs inputs c.in_ok-outputs.outputs c.in_ok-outputs.ensures c.requires c.if-stated-gt-PAYABLE.false (search rules), refl)

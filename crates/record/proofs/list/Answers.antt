@@ -1,6 +1,15 @@
-use Rattle.record.proofs.Tops.{tops}
-use borrow.Author.Rules.{rules}
+use mathlib.Core.Path.{refl}
+use Rattle.record.proofs.Tops.{list-none, list-other, list-bad, list-is}
 use Rattle.record.proofs.list.Goals as goal
 
-pub returns-then-get2-eq18 : goal.returns-then-get2-eq18
-returns-then-get2-eq18 c = search (rules, tops)
+pub returns-in_err-list : goal.returns-in_err-list
+returns-in_err-list c = list-none _ _ _ c.from_residual.ensures c.in_err-list.ensures
+
+pub returns-then-list-ne-LIST : goal.returns-then-list-ne-LIST
+returns-then-list-ne-LIST c = list-other _ _ c.in_ok-list.list c.in_ok-list.ensures c.if-list-ne-LIST.true
+
+pub returns-in_err-fields : goal.returns-in_err-fields
+returns-in_err-fields c = list-bad _ _ c.in_ok-list.list c.in_ok-list.ensures c.if-list-ne-LIST.false _ c.from_residual-in_err-fields.ensures c.in_err-fields.ensures.same
+
+pub returns : goal.returns
+returns c = list-is _ _ c.in_ok-list.list c.in_ok-list.ensures c.if-list-ne-LIST.false _ refl refl c.in_ok-fields.ensures.same c.in_ok-fields.ensures.small

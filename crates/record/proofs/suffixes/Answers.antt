@@ -1,18 +1,12 @@
 use borrow.Author.Rules.{rules}
-use Rattle.record.proofs.Walk.{walking}
+use Rattle.record.proofs.Walk.{suffixes-end, suffixes-none, suffixes-bad}
 use Rattle.record.proofs.suffixes.Goals as goal
 
-pub loop-at-init : goal.loop-at-init
-loop-at-init c = search (rules, walking)
+pub returns-in_err-piece-clause-same : goal.returns-in_err-piece-clause-same
+returns-in_err-piece-clause-same c = rw c.from_residual.ensures (suffixes-none _ _ _ c.loop-left.invariant (search rules) c.in_err-piece.ensures)
 
-pub returns-then-l-lt6 : goal.returns-then-l-lt6
-returns-then-l-lt6 c = search (rules, walking)
+pub returns-in_err-n-clause-same : goal.returns-in_err-n-clause-same
+returns-in_err-n-clause-same c = rw c.from_residual-in_err-n.ensures (suffixes-bad _ _ _ c.loop-left.invariant (search rules) _ c.in_ok-piece.ensures (search rules))
 
-pub returns-then-s-eq0 : goal.returns-then-s-eq0
-returns-then-s-eq0 c = search (rules, walking)
-
-pub loop-at-preserved : goal.loop-at-preserved
-loop-at-preserved c = search (rules, walking)
-
-pub returns : goal.returns
-returns c = search (rules, walking)
+pub returns-clause-same : goal.returns-clause-same
+returns-clause-same c = suffixes-end _ _ _ c.loop-left.invariant (search rules)

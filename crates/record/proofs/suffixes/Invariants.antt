@@ -1,10 +1,9 @@
-use Rattle.record.proofs.Walk.{SuffixesLeft}
-use Prim.Native.Nat.{◌-◌}
 use lib.ListN.{length}
+use Rattle.record.proofs.Walk.{SuffixesLeft}
 use Rattle.record.proofs.suffixes.Given as goal
 
-abbrev pub invariant-loop-at : goal.invariant-loop-at
-invariant-loop-at l = SuffixesLeft l.b l.text l.at l.n
+abbrev pub invariant-loop-left : goal.invariant-loop-left
+invariant-loop-left l = SuffixesLeft l.b l.left l.n
 
-abbrev pub decreases-loop-at : goal.decreases-loop-at
-decreases-loop-at l = length l.b - l.at
+abbrev pub decreases-loop-left : goal.decreases-loop-left
+decreases-loop-left l = length l.left

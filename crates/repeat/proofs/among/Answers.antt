@@ -1,19 +1,8 @@
-use native.Mathlib.Omega.{arith}
-use mathlib.Core.Path.{refl, ◌∙◌}
-use Prim.Native.Nat.{◌<◌}
-use lib.ListN.{length}
-use Rattle.repeat.specs.Prints.{any}
-use Rattle.repeat.proofs.Printing.{among_hit, among_miss}
+use Rattle.std.proofs.Common.{rules, ◌==◌, ◌||◌, false}
+use Rattle.std.proofs.lemmas.Iterator.Consumers.{fold_from_yields_List}
+use Rattle.std.proofs.lemmas.Iterator.{YieldsList-from_slice}
+use Rattle.repeat.proofs.Printing.{any_folded}
 use Rattle.repeat.proofs.among.Goals as goal
-use Rattle.repeat.proofs.among.Goals.{then-prints-i, else-prints-i}
 
-pub loop-i-init : goal.loop-i-init
-unfolding any
-loop-i-init c = (omega arith, refl)
-
-pub loop-i-preserved : goal.loop-i-preserved
-loop-i-preserved c = let l : c.loop-i.i < length c.args.prints.now = omega arith in
-    elim c.if-prints-i.branch [
-      | then-prints-i w ↦ (omega arith, w.found-is ∙ among_hit _ _ _ _ l c.loop-i.invariant.1 w.if-prints-i.true)
-      | else-prints-i w ↦ (omega arith, w.found-is ∙ among_miss _ _ _ _ l c.loop-i.invariant.1 w.if-prints-i.false)
-    ]
+pub returns : goal.returns
+returns c = any_folded (λ p. p == c.args.h) _ _ (fold_from_yields_List _ (λ a x. a || (x == c.args.h)) false _ c.fold.ensures.ran (YieldsList-from_slice _ c.iter.ensures.rest) (λ a x b q k. search rules))

@@ -1,33 +1,23 @@
-use native.Mathlib.Omega.{arith}
-use Rattle.repeat.proofs.Whole.{two-long, two-unlike, two_constructors, pair_asks, pair_then}
+use Rattle.repeat.proofs.Whole.{record-headed, two-none, lines-ask, lists-tell, one-none, other-none}
 use Rattle.repeat.proofs.repeats.Goals as goal
 
-pub get2-k-requires : goal.get2-k-requires
-get2-k-requires c = omega (arith, two-long _ _ c.requires)
+pub first-requires : goal.first-requires
+first-requires c = record-headed _ _ c.requires.one
 
-pub get2-requires : goal.get2-requires
-get2-requires c = omega (arith, two-long _ _ c.requires)
+pub first-requires-2 : goal.first-requires-2
+first-requires-2 c = record-headed _ _ c.requires.other
 
-pub slice_bounds-named-count : goal.slice_bounds-named-count
-slice_bounds-named-count c = omega (arith, two-long _ _ c.requires)
+pub lists-requires : goal.lists-requires
+lists-requires c = lines-ask _ _ _ _ c.first.ensures c.first-2.ensures c.if-first.false _ _ c.in-Some-Some.ensures c.in-Some-Some.ensures' c.requires
 
-pub slice_bounds-named-start : goal.slice_bounds-named-start
-slice_bounds-named-start c = omega (arith, two-long _ _ c.requires)
+pub returns-then-eq : goal.returns-then-eq
+returns-then-eq c = lists-tell _ _ _ _ c.first.ensures c.first-2.ensures c.if-first.false _ _ c.in-Some-Some.ensures c.in-Some-Some.ensures' _ c.eq.ensures c.if-eq.true _ c.lists.ensures
 
-pub slice_bounds-named-count-in_default : goal.slice_bounds-named-count-in_default
-slice_bounds-named-count-in_default c = omega (arith, two-long _ _ c.requires)
-
-pub slice_bounds-named-start-in_default : goal.slice_bounds-named-start-in_default
-slice_bounds-named-start-in_default c = omega (arith, two-long _ _ c.requires)
-
-pub named-requires : goal.named-requires
-named-requires c = pair_asks _ _ _ _ c.get2-k.ensures.0 c.get2.ensures.0 c.if-k-get2.true c.in_default.in_default-own.rest.1 _ c.name_at-at.ensures.0 c.requires
-
-pub returns-in-33 : goal.returns-in-33
-returns-in-33 c = two_constructors _ _ _ _ c.get2-k.ensures.0 c.get2.ensures.0 c.if-k-get2.true c.in-33.is
+pub returns-in-None-None : goal.returns-in-None-None
+returns-in-None-None c = two-none _ _ _ _ c.first.ensures c.first-2.ensures c.if-first.false c.in-None-None.ensures c.in-None-None.ensures'
 
 pub returns-in_default : goal.returns-in_default
-returns-in_default c = pair_then _ _ _ _ c.get2-k.ensures.0 c.get2.ensures.0 c.if-k-get2.true c.in_default.in_default-own.rest.1 _ c.name_at-at.ensures.0 _ c.named.ensures
+returns-in_default c = one-none _ _ _ _ c.first.ensures c.first-2.ensures c.if-first.false _ c.in_default.ensures c.in_default.ensures'
 
-pub returns : goal.returns
-returns c = two-unlike _ _ _ _ c.get2-k.ensures.0 c.get2.ensures.0 c.if-k-get2.false
+pub returns-in_default-2 : goal.returns-in_default-2
+returns-in_default-2 c = other-none _ _ _ _ c.first.ensures c.first-2.ensures c.if-first.false _ c.in_default.ensures c.in_default.ensures'

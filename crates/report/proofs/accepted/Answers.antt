@@ -1,21 +1,30 @@
 use native.Mathlib.Omega.{arith}
-use Rattle.report.proofs.Whole.{declared-line, declared-put, constructor-put, field_put, ill_formed-put}
+use Rattle.report.proofs.Whole.{declared, line-asks, line-inside, line-put, constructor-put, nothing-put}
 use Rattle.report.proofs.accepted.Goals as goal
 
-pub lined-requires-clause-says : goal.lined-requires-clause-says
-lined-requires-clause-says c = (declared-line _ _ c.check-c.ensures _ _ _ _ c.in-Declared.is).writes_it
+pub returns-in_default : goal.returns-in_default
+returns-in_default c = nothing-put _ c.in_default.ensures.0 _
 
-pub lined-requires-clause-room : goal.lined-requires-clause-room
-lined-requires-clause-room c = omega (arith, (declared-line _ _ c.check-c.ensures _ _ _ _ c.in-Declared.is).small, c.requires.0, c.requires.1)
+pub write_line-requires : goal.write_line-requires
+write_line-requires c =
+    let w = declared _ _ _ _ _ (rw c.in-Declared.is at c.in-Some.ensures).0 in
+    line-asks _ _ _ _ w _ _ _ c.front-n.ensures.written c.front-n.ensures.short c.requires
+
+pub overflow_add-result : goal.overflow_add-result
+overflow_add-result c =
+    let w = declared _ _ _ _ _ (rw c.in-Declared.is at c.in-Some.ensures).0 in
+    omega (arith, line-inside _ _ _ _ w _ _ _ c.front-n.ensures.written c.front-n.ensures.short c.requires _ _ c.write_line.ensures)
 
 pub returns-in-Declared : goal.returns-in-Declared
-returns-in-Declared c = declared-put _ _ c.check-c.ensures _ _ _ _ _ _ _ c.in-Declared.is c.lined.ensures
+returns-in-Declared c =
+    let w = declared _ _ _ _ _ (rw c.in-Declared.is at c.in-Some.ensures).0 in
+    line-put _ _ _ _ w _ _ _ c.front-n.ensures.written c.front-n.ensures.short c.requires _ _ c.write_line.ensures
 
 pub returns-in-Constructor : goal.returns-in-Constructor
-returns-in-Constructor c = constructor-put _ _ c.check-c.ensures _ _ _ c.in-Constructor.is c.dashed.ensures
+returns-in-Constructor c =
+    let w = (rw c.in-Constructor.is at c.in-Some.ensures).0 in
+    let front = c.front-n-in-Constructor.ensures in
+    constructor-put _ _ w _ _ _ _ _ front.written (omega (arith, front.short, c.requires)) c.write_word.ensures
 
 pub returns-in-Field : goal.returns-in-Field
-returns-in-Field c = field_put _ _ c.check-c.ensures _ _ _ c.in-Field.is
-
-pub returns-in-IllFormed : goal.returns-in-IllFormed
-returns-in-IllFormed c = ill_formed-put _ _ c.check-c.ensures _ c.in-IllFormed.is
+returns-in-Field c = nothing-put _ (rw c.in-Field.is at c.in-Some.ensures).0 _

@@ -1,15 +1,17 @@
+use mathlib.Core.List.{◌++◌}
 use native.Mathlib.Omega.{arith}
-use Rattle.report.proofs.Parts.{no_parts, short-number}
+use Rattle.kinds.specs.Bytes.{ascii}
+use Rattle.kinds.specs.Decimal.{decimal}
+use Rattle.abi.proofs.Going.{going-first, going-next, going-last}
+use Rattle.report.proofs.Parts.{no-short}
 use Rattle.report.proofs.refused.Goals as goal
 
-pub write_decimal-q-requires : goal.write_decimal-q-requires
-write_decimal-q-requires c = omega (arith, c.write-p.ensures.end, short-number c.args.number (omega arith))
-
-pub write-m-requires : goal.write-m-requires
-write-m-requires c = omega (arith, c.write-p.ensures.end, c.write_decimal-q.ensures.end, short-number c.args.number (omega arith))
-
-pub write_decimal-requires : goal.write_decimal-requires
-write_decimal-requires c = omega (arith, c.write-p.ensures.end, c.write_decimal-q.ensures.end, c.write-m.ensures.end, short-number c.args.number (omega arith), short-number c.args.position (omega arith))
-
 pub returns : goal.returns
-returns c = no_parts _ c.requires _ _ _ _ _ _ _ _ _ _ (omega arith) (omega arith) c.write-p.ensures c.write_decimal-q.ensures c.write-m.ensures c.write_decimal.ensures
+returns c =
+    let number = decimal c.args.number in
+    let position = decimal c.args.position in
+    let short = no-short c.args.number c.args.position (omega arith) (omega arith) in
+    let first = going-first (ascii "no ") (number ++ (ascii " " ++ position)) _ _ _ (omega (arith, short, c.requires)) c.write_word-n.ensures in
+    let second = going-next _ _ number _ _ _ first _ _ c.write_decimal-n.ensures in
+    let third = going-next _ _ (ascii " ") _ _ _ second _ _ c.write_word-n-2.ensures in
+    going-last _ _ _ _ _ third _ _ c.write_decimal.ensures

@@ -1,16 +1,15 @@
-use native.Mathlib.Omega.{arith}
-use mathlib.Core.Path.{refl}
-use Rattle.sheet.proofs.Counting.{count-asks, count-few, count-crowded, count-many}
+use Rattle.std.proofs.Common.{rules, refl}
+use Rattle.sheet.proofs.Counting.{count_full, count_asks, count_room, count_more}
 use Rattle.sheet.proofs.count.Goals as goal
 
-pub repeat_line-repeated-requires : goal.repeat_line-repeated-requires
-repeat_line-repeated-requires c = count-asks _ _ _ _ _ _ _ _ _ _ c.requires c.if-n-lt-MOST_DECLARATIONS.true c.fingerprint-h.ensures
+pub returns-then-is_full : goal.returns-then-is_full
+returns-then-is_full c = count_full _ _ _ _ _ _ (search rules) _ refl refl c.or-seen.ensures
 
-pub returns-then-n-lt-MOST_DECLARATIONS : goal.returns-then-n-lt-MOST_DECLARATIONS
-returns-then-n-lt-MOST_DECLARATIONS c = count-few _ _ _ _ _ _ _ _ _ _ _ c.if-n-lt-MOST_DECLARATIONS.true c.fingerprint-h.ensures c.repeat_line-repeated.ensures _ refl refl refl refl
+pub next_repeat-seen-requires : goal.next_repeat-seen-requires
+next_repeat-seen-requires c = count_asks _ _ _ _ _ _ (search rules) _ _ c.fingerprint-print.ensures c.requires _ refl
 
-pub returns-then-n-eq-MOST_DECLARATIONS : goal.returns-then-n-eq-MOST_DECLARATIONS
-returns-then-n-eq-MOST_DECLARATIONS c = count-crowded _ _ _ _ _ _ _ _ c.if-n-eq-MOST_DECLARATIONS.true _ refl refl refl
+pub push-requires : goal.push-requires
+push-requires c = count_room _ _ _ _ _ _ (search rules) c.requires
 
 pub returns : goal.returns
-returns c = count-many _ _ _ _ _ _ _ _ (omega (arith, c.if-n-eq-MOST_DECLARATIONS.false, c.if-n-lt-MOST_DECLARATIONS.false)) _ refl refl refl
+returns c = count_more _ _ _ _ _ _ (search rules) _ _ c.fingerprint-print.ensures _ refl refl _ c.next_repeat-seen.ensures _ c.push.ensures.0 c.push.ensures.1 refl refl refl

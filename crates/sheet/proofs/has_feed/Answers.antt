@@ -1,19 +1,9 @@
-use native.Mathlib.Omega.{arith}
-use mathlib.Core.Path.{refl, ◌∙◌}
-use Prim.Native.Nat.{◌<◌}
-use lib.ListN.{length}
-use Rattle.repeat.specs.Prints.{any}
-use Rattle.repeat.proofs.Printing.{among_hit, among_miss}
+use Rattle.std.proofs.Common.{rules, ◌==◌, ◌||◌, false}
+use Rattle.std.proofs.lemmas.Iterator.Consumers.{fold_from_yields_List}
+use Rattle.std.proofs.lemmas.Iterator.{YieldsList-from_slice}
+use Rattle.model.specs.Sheet.{line_feed}
+use Rattle.repeat.proofs.Printing.{any_folded}
 use Rattle.sheet.proofs.has_feed.Goals as goal
-use Rattle.sheet.proofs.has_feed.Goals.{then-t-i-eq10, else-t-i-eq10}
 
-pub loop-i-init : goal.loop-i-init
-unfolding any
-loop-i-init c = (omega arith, refl)
-
-pub loop-i-preserved : goal.loop-i-preserved
-loop-i-preserved c = let l : c.loop-i.i < length c.args.t.now = omega arith in
-    elim c.if-t-i-eq10.branch [
-      | then-t-i-eq10 w ↦ (omega arith, w.found-is ∙ among_hit _ _ _ _ l c.loop-i.invariant.1 w.if-t-i-eq10.true)
-      | else-t-i-eq10 w ↦ (omega arith, w.found-is ∙ among_miss _ _ _ _ l c.loop-i.invariant.1 w.if-t-i-eq10.false)
-    ]
+pub returns : goal.returns
+returns c = any_folded (λ p. p == line_feed) c.args.t.now _ (fold_from_yields_List _ (λ a x. a || (x == line_feed)) false _ c.fold.ensures.ran (YieldsList-from_slice _ c.iter.ensures.rest) (λ a x b q k. search rules))

@@ -1,10 +1,9 @@
-use Prim.Native.Nat.{◌-◌}
 use lib.ListN.{length}
 use Rattle.sheet.specs.Lines.{SameLine}
 use Rattle.sheet.proofs.pass_blocks.Given as goal
 
-abbrev pub invariant-loop-i : goal.invariant-loop-i
-invariant-loop-i l = SameLine l.s l.at l.i
+abbrev pub invariant-loop-left : goal.invariant-loop-left
+invariant-loop-left l = SameLine l.text l.left
 
-abbrev pub decreases-loop-i : goal.decreases-loop-i
-decreases-loop-i l = length l.s - l.i
+abbrev pub decreases-loop-left : goal.decreases-loop-left
+decreases-loop-left l = length l.left

@@ -1,16 +1,22 @@
-use borrow.Author.Rules.{rules}
-use mathlib.Core.Path.{refl}
-use Rattle.sheet.proofs.Judging.{survey_start, survey_more, survey_bad, survey_end}
+use Rattle.std.proofs.Common.{arith, rules, refl}
+use Rattle.sheet.proofs.Taking.{survey_start, survey_asks, survey_more, survey_bad, survey_end}
 use Rattle.sheet.proofs.survey.Goals as goal
 
-pub loop-at-init : goal.loop-at-init
-loop-at-init c = survey_start _ _ _ _ _ _ refl refl refl refl (search rules) (search rules) (search rules) (search rules)
+pub loop-left-init : goal.loop-left-init
+loop-left-init c = (survey_start _ _ c.new.ensures.0 c.new.ensures.1 refl refl refl, refl, refl)
 
-pub returns-in-Refused : goal.returns-in-Refused
-returns-in-Refused c = survey_bad _ _ _ _ _ _ _ _ _ c.loop-at.invariant c.line_end-e.ensures c.requires _ _ _ _ _ c.take_line-t.ensures _ _ c.in-Refused.is
+pub take_line-requires : goal.take_line-requires
+take_line-requires c = survey_asks _ _ _ _ c.loop-left.invariant.0 (search rules) _ c.first_line-first.ensures _ refl c.requires _ _ c.loop-left.invariant.1 c.loop-left.invariant.2
 
-pub loop-at-preserved : goal.loop-at-preserved
-loop-at-preserved c = survey_more _ _ _ _ _ _ _ _ _ c.loop-at.invariant c.line_end-e.ensures c.requires _ _ _ _ _ c.take_line-t.ensures _ c.in-More.is _ c.next_line-at.ensures c.loop-at-test.true
+pub returns-in-Err : goal.returns-in-Err
+returns-in-Err c = survey_bad _ _ _ _ c.loop-left.invariant.0 (search rules) _ c.first_line-first.ensures _ refl c.requires _ _ c.loop-left.invariant.1 c.loop-left.invariant.2 c.take_line.new.seen _ refl c.in-Err.ensures
+
+pub loop-left-preserved : goal.loop-left-preserved
+loop-left-preserved c = (
+  survey_more _ _ _ _ c.loop-left.invariant.0 (search rules) _ c.first_line-first.ensures _ refl c.requires _ _ c.loop-left.invariant.1 c.loop-left.invariant.2 _ _ c.in_default.ensures,
+  omega (arith, c.loop-left.invariant.1, c.take_line.auto.record),
+  omega (arith, c.loop-left.invariant.2, c.take_line.auto.scratch),
+)
 
 pub returns : goal.returns
-returns c = survey_end _ _ _ _ _ _ _ _ c.loop-at.invariant c.requires c.loop-at-test.false
+returns c = survey_end _ _ _ _ c.loop-left.invariant.0 (search rules) c.requires

@@ -1,13 +1,11 @@
+use native.Mathlib.Omega.{arith}
 use borrow.Author.Rules.{rules}
-use Rattle.model.proofs.Scans.{scanning}
-use Rattle.text.proofs.Skipping.{skipping}
+use Rattle.model.specs.Text.{blank}
+use Rattle.text.proofs.Remaining.{left_end, remaining}
 use Rattle.text.proofs.blanks_slowly.Goals as goal
 
-pub returns-then-n-eq0 : goal.returns-then-n-eq0
-returns-then-n-eq0 c = search (rules, scanning, skipping)
-
-pub loop-i-preserved : goal.loop-i-preserved
-loop-i-preserved c = search (rules, scanning, skipping)
+pub loop-n-preserved : goal.loop-n-preserved
+loop-n-preserved c = search (rules, remaining)
 
 pub returns : goal.returns
-returns c = search (rules, scanning, skipping)
+returns c = (left_end blank _ _ _ c.loop-n.invariant (omega arith), omega arith)

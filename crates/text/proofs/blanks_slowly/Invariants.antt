@@ -1,11 +1,10 @@
-use mathlib.Core.Path.{◌≡◌}
-use Prim.Native.Nat.{◌+◌, ◌-◌, ◌≤◌}
-use lib.ListN.{length, drop}
+use lib.ListN.{length}
 use Rattle.model.specs.Text.{span, blank}
+use Rattle.text.proofs.Remaining.{Left}
 use Rattle.text.proofs.blanks_slowly.Given as goal
 
-abbrev pub invariant-loop-i : goal.invariant-loop-i
-invariant-loop-i l = (l.i ≤ length l.t) × (l.i + span blank (drop l.i l.t) ≡ span blank l.t)
+abbrev pub invariant-loop-n : goal.invariant-loop-n
+invariant-loop-n l = Left blank l.t (span blank l.t) l.left
 
-abbrev pub decreases-loop-i : goal.decreases-loop-i
-decreases-loop-i l = length l.t - l.i
+abbrev pub decreases-loop-n : goal.decreases-loop-n
+decreases-loop-n l = length l.left

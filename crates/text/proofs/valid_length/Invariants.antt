@@ -1,11 +1,10 @@
-use mathlib.Core.Path.{◌≡◌}
-use Prim.Native.Nat.{◌+◌, ◌-◌, ◌≤◌}
-use lib.ListN.{length, drop}
-use Rattle.model.specs.Text.{span, character, valid_length}
+use lib.ListN.{length}
+use Rattle.model.specs.Text.{character, valid_length}
+use Rattle.text.proofs.Remaining.{Left}
 use Rattle.text.proofs.valid_length.Given as goal
 
-abbrev pub invariant-loop-i : goal.invariant-loop-i
-invariant-loop-i l = (l.i ≤ length l.s) × (l.i + span character (drop l.i l.s) ≡ valid_length l.s)
+abbrev pub invariant-loop-c : goal.invariant-loop-c
+invariant-loop-c l = Left character l.s (valid_length l.s) l.left
 
-abbrev pub decreases-loop-i : goal.decreases-loop-i
-decreases-loop-i l = length l.s - l.i
+abbrev pub decreases-loop-c : goal.decreases-loop-c
+decreases-loop-c l = length l.left
