@@ -40,8 +40,7 @@ const DEEPEST: usize = 32;
 // "at most 40,960 bytes"
 const LONGEST_RECORD: usize = 40960;
 
-// Pieces. A walk over records is a loop over what is left, not an iterator: its `next` could not ask that a record stands there, and one that tests
-// would take a torn record for the end.
+// Pieces. A walk over records is a loop over what is left, which returns where a record is torn; an iterator would hand out an `Option` for each.
 
 // The record that some bytes begin with: its kind, its body, and the bytes behind it.
 #[derive(Clone, Copy, Debug, PartialEq, Eq)]
@@ -125,7 +124,7 @@ fn short_length(v: u64) -> usize
     }
 }
 
-// How many digits a number has. Four are taken at once, since each division waits for the one before; the library has no `ilog10`.
+// How many digits a number has. Four are taken at once, since each division waits for the one before.
 #[tactic(auto, using(crate::proofs::Lengths::lengths))]
 pub fn decimal_length(v: u64) -> usize
     ensures { (result ≡ length (decimal v)) × (result ≤ 20) }

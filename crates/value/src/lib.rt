@@ -173,7 +173,7 @@ struct Peeled {
     suffix: Suffix,
 }
 
-// The last `[`: the search ends at its first hit from the right. A loop, since the library's iterators over slices have no `rposition`.
+// "The search for the last `[` ends at its first hit from the right": a loop that breaks with the place found.
 fn last_bracket(t: &[u8]) -> Option<usize>
     ensures { LastIs t.now result }
 {
