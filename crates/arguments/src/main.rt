@@ -3,9 +3,12 @@
 // Data are parts with `,` between them: a number is a word, `x` and hex digits are those bytes, `z` and a number are so many zeros; `-` is none.
 #![tactic(auto)]
 
+ghost use Rattle.std.specs.Prelude.{◌≤◌};
+
 use arrayvec::ArrayVec;
 use model::{Answer, Call};
 use std::io;
+use std::io::Read;
 use tables::FILL;
 
 // As long as the longest record.
@@ -22,22 +25,26 @@ const WORD: usize = 32;
 
 const PADDING: usize = 24;
 
+// As many zeros as there is ever room for; they are copied from here.
+static ZEROS: [u8; DATA] = [0; DATA];
+
 // The tables are shorter.
 const INPUT: usize = 262144;
 
 type Data = ArrayVec<u8, DATA>;
 
 // How many bytes a field says, and the most where it says none or more.
-fn count_of(field: &[u8], most: usize) -> usize {
+#[tactic(auto, using(tables::proofs::Limits::plain_within))]
+fn count_of(field: &[u8], most: usize) -> usize
+    ensures { result ≤ most }
+{
     text::plain(most as u64, field).map_or(most, |count| count as usize)
 }
 
 // Data. What has no room is left out.
 
 fn push_zeros(data: &mut Data, count: usize) {
-    for _ in 0..count {
-        let _ = data.try_push(0);
-    }
+    tables::put(data, &ZEROS[..count.min(DATA)]);
 }
 
 // The word of a number.
@@ -50,7 +57,7 @@ fn push_word(data: &mut Data, v: u64) {
 fn push_part(data: &mut Data, said: &[u8]) {
     match said {
         [] | [b'-', ..] => (),
-        [b'x', hex @ ..] => tables::put(data, &tables::bytes_of::<DATA>(hex)),
+        [b'x', hex @ ..] => tables::put_hex(data, hex),
         [b'z', count @ ..] => push_zeros(data, count_of(count, DATA)),
         _ => {
             if let Some(v) = text::plain(u64::MAX, said) {
@@ -61,12 +68,10 @@ fn push_part(data: &mut Data, said: &[u8]) {
 }
 
 // What a field says.
-fn data_of(said: &[u8]) -> Data {
-    let mut data = Data::new();
+fn push_data(data: &mut Data, said: &[u8]) {
     for part in said.split(|&byte| byte == b',') {
-        push_part(&mut data, part);
+        push_part(data, part);
     }
-    data
 }
 
 // Answers.
@@ -81,7 +86,9 @@ fn show_heads<P: Print>(rt: &P, field: &[u8], record: &[u8]) -> io::Result<()> {
 }
 
 fn show_data<P: Print>(rt: &P, field: &[u8], record: &[u8]) -> io::Result<()> {
-    match calldata::check(record, &data_of(field)) {
+    let mut data = Data::new();
+    push_data(&mut data, field);
+    match calldata::check(record, &data) {
         Ok(length) => print!(rt; " ok {length}"),
         Err(refused) => tables::print_refused(rt, refused, b""),
     }
@@ -112,8 +119,9 @@ fn row<P: Print>(rt: &P, line: &[u8]) -> io::Result<()> {
     print!(rt; "\n")
 }
 
-// Each program has a `main` of its own; what they share is in `tables`.
+// Each program has a `main` of its own; what they share is in `tables`. The input is read where it stays: one so long is not moved.
 fn main(rt: HostRuntime) -> io::Result<()> {
-    let input = tables::read_input::<INPUT>(&rt)?;
+    let mut input = ArrayVec::<u8, INPUT>::new();
+    io::copy(&mut rt.reader().take(INPUT as u64), &mut input)?;
     tables::each_row(&rt, &input, |rt, line| row(rt, line))
 }

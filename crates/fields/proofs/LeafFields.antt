@@ -108,12 +108,12 @@ module _ (s : List ℕ) (p r : ℕ) (e : r ≡ run_length (take (length s - p) (
           let z : l ≡ can_specify_location (elementary (to_elementary k.base)) i.suffixes = q ∙ ap (located_by k.base) i.size ∙ located_is k.base i.suffixes in
           rw (leaf_of, read_is, behind-got s (p + r) sort l m w n kind-is v z)
 
-      pub leaf-put : (y : ℕ) (b₁ : List ℕ) → y ≡ 14 + length w + length (encode_elementary 4 (to_elementary k.base)) + k.len → LeafPut k m w b b₁ → Put 0 s p b₁ (leaf_of sort s p) (read_to n y)
+      pub leaf-put : (y x : ℕ) (b₁ : List ℕ) → y ≡ 14 + length w + length (encode_elementary 4 (to_elementary k.base)) + k.len → x ≡ mark_number m → LeafPut k x w b b₁ → Put 0 s p b₁ (leaf_of sort s p) (read_to n y)
       unfolding to_read bytes_of leaf-field encode_base
-      leaf-put y b₁ z f =
+      leaf-put y x b₁ z e f =
           let u : length (encode_field 4 leaf-field) ≡ y = omega (arith, field-size (mark_number m) w (elementary (to_elementary k.base)) i.suffixes, i.size) in
           rw leaf-is (record {
             same = ap (read_to n) (sym u);
             within = omega (arith, leaf-paid, v.low, v.inside);
-            wrote = begins-put [] (encode_field 4 leaf-field) b b₁ 0 refl refl (f i.suffixes i.suffixed);
+            wrote = begins-put [] (encode_field 4 leaf-field) b b₁ 0 refl refl ((rw e at f) i.suffixes i.suffixed);
           })

@@ -264,7 +264,7 @@ fn leaf(s: &[u8], at: usize, sort: Sort, out: &mut [u8]) -> Read
         }
     };
     let named = mark_name(s, end, sort, is_located(run.base, run.len));
-    run.write_field(named.mark, named.name, out);
+    run.write_field(usize::from(named.mark), named.name, out);
     Ok(Got {
         next: named.next,
         len: run.field_length(named.name),

@@ -18,7 +18,7 @@ use repeat::Notes;
 // A canonical text has fewer bytes than twice its record, which has at most 40,960. Most fit a smaller scratch, which is cleared in less time.
 const LONGEST_TEXT: usize = 81920;
 
-const USUAL_TEXT: usize = 8192;
+pub const USUAL_TEXT: usize = 8192;
 
 // The records in a sheet's record, if bytes are one.
 #[tactic(auto, using(crate::proofs::Parts::heads))]
@@ -63,7 +63,7 @@ fn long_print(record: &[u8]) -> u32
 
 // The fingerprint of a declaration. The scratch is used where it has room for any text of such a record.
 #[tactic(auto, using(crate::proofs::Places::printing))]
-fn print_of(record: &[u8], scratch: &mut [u8]) -> u32
+pub fn print_of(record: &[u8], scratch: &mut [u8]) -> u32
     requires { OneRecord «record».now }
     ensures { WholePrint «record».now result }
 {
@@ -115,9 +115,9 @@ fn note(sheet: &[u8], at: usize, record: &[u8], scratch: &mut [u8], notes: &mut 
 pub fn index(sheet: &[u8]) -> Option<Notes>
     ensures { IndexIs sheet.now result }
 {
+    let mut left = records(sheet)?;
     let mut scratch = [0; USUAL_TEXT];
     let mut notes = Notes::new();
-    let mut left = records(sheet)?;
     // A walk over pieces: a loop (`record::Piece`).
     while !left.is_empty() {
         let part = first(left)?;

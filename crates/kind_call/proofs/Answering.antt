@@ -9,6 +9,7 @@ use Rattle.model.specs.declared.Refusal.{Refusal}
 use Rattle.model.specs.declared.Refusal.TheVariants.{TooLong, NotUtf8, TooDeep, Unknown, NoRoom}
 use Rattle.model.specs.declared.Refused.{Refused}
 use Rattle.model.specs.declared.Mark.TheVariants.{Unmarked}
+use Rattle.model.specs.Mark.{mark_number}
 use Rattle.model.specs.declared.Sort.TheVariants.{Plain}
 use Rattle.model.specs.Text.{valid_length, peek}
 use Rattle.model.specs.Tree.{Field, field, elementary}
@@ -125,9 +126,9 @@ module _ (s b : List ℕ) where
     pub lone-at : length s ≤ 4096 → n ≤ length b → LeafAt k [] b
     lone-at h l = record { suffixes = i.suffixes; suffixed = i.suffixed; size = i.size; room = omega (arith, e); small = omega (arith, i.small, i.inside) }
 
-    pub lone-done : (b₁ : List ℕ) → n ≤ length b → LeafPut k Unmarked [] b b₁ → Ends (lone_output s) b b₁ (Ok n)
+    pub lone-done : (b₁ : List ℕ) (x : ℕ) → n ≤ length b → x ≡ mark_number Unmarked → LeafPut k x [] b b₁ → Ends (lone_output s) b b₁ (Ok n)
     unfolding bytes-of-lone
-    lone-done b₁ l p = ends-written (lone_output s) b (Ok n) bytes-of-lone b₁ (ap Ok (sym lone_needs)) lone-written (omega (arith, lone_needs)) (p i.suffixes i.suffixed)
+    lone-done b₁ x l e p = ends-written (lone_output s) b (Ok n) bytes-of-lone b₁ (ap Ok (sym lone_needs)) lone-written (omega (arith, lone_needs)) ((rw e at p) i.suffixes i.suffixed)
 
 -- Any text.
 

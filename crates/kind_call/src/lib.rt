@@ -133,7 +133,7 @@ fn elementary(text: &[u8], record: &mut [u8]) -> Answer
     if record.len() < need {
         return Err(Refusal::NoRoom.into());
     }
-    run.write_field(Mark::Unmarked, b"", record);
+    run.write_field(usize::from(Mark::Unmarked), b"", record);
     Ok(need)
 }
 

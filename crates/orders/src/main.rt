@@ -4,6 +4,8 @@
 // full text call asked about a field's record.
 #![tactic(auto)]
 
+ghost use Rattle.std.specs.Prelude.{◌≤◌};
+
 use arrayvec::ArrayVec;
 use model::{Answer, Call};
 use std::io;
@@ -25,7 +27,10 @@ const INPUT: usize = 262144;
 const UNTOLD: usize = 99999;
 
 // The room that a field says, and ample where it says none.
-fn room_of(field: &[u8]) -> usize {
+#[tactic(auto, using(tables::proofs::Limits::plain_within))]
+fn room_of(field: &[u8]) -> usize
+    ensures { result ≤ 81920 }
+{
     text::plain(AMPLE as u64, field).map_or(AMPLE, |room| room as usize)
 }
 

@@ -1,6 +1,6 @@
 -- Lists in brackets, the outputs and the end.
 -- Assumes nothing.
-use Rattle.std.proofs.Common.{◌≡◌, refl, sym, ◌∙◌, ap, subst, ℕ, ◌+◌, ◌*◌, ◌-◌, ◌≤◌, ◌<◌, Bool, true, false, List, [], ◌∷◌, ◌++◌, length, take, drop, length-append, length-drop, append-nil, arith, eqb, eqb-true, eq-eqb}
+use Rattle.std.proofs.Common.{◌≡◌, refl, sym, ◌∙◌, ap, subst, ℕ, ◌+◌, ◌*◌, ◌-◌, ◌≤◌, ◌<◌, Bool, true, false, List, [], length, take, drop, length-append, length-drop, append-nil, arith, eqb}
 use borrow.Author.Tests.{ne_eqb}
 use Rattle.std.proofs.lemmas.Option.{none-some}
 use Rattle.std.proofs.lemmas.Bool.{false≢true}
@@ -12,17 +12,15 @@ use Rattle.std.proofs.lemmas.List.{take_rest}
 use Rattle.std.specs.Prelude.{Option, None, Some, Result, Ok, Err}
 use Rattle.std.specs.Result.{IsErrAnd}
 use borrow.Rule.Slice.PartMut.{put_mid}
-use Rattle.kinds.specs.Bytes.{ascii, same, lparen, semicolon}
-use Rattle.model.specs.declared.Refusal.{Refusal}
+use Rattle.kinds.specs.Bytes.{ascii, same, lparen}
 use Rattle.model.specs.declared.Refusal.TheVariants.{ExpectOpen, ExpectEnd}
 use Rattle.model.specs.declared.Refused.{Refused}
 use Rattle.model.specs.declared.Sort.{Sort}
 use Rattle.model.specs.declared.Sort.TheVariants.{Parameter}
 use Rattle.model.specs.Text.{skip, peek}
 use Rattle.model.specs.Tree.{Fields}
-use Rattle.model.proofs.Scans.{peek-inside}
-use Rattle.model.specs.Parser.{Ans, got, bad, Found, found, missing, require, look, why_not, on_ans, then, or_else, take_char, at_end, end}
-use Rattle.model.specs.Reading.{list, field_by, tuple_kind, deepest, fields, returns, returns_by}
+use Rattle.model.specs.Parser.{Ans, got, bad, Found, found, missing, on_ans, then, or_else, take_char, at_end, end}
+use Rattle.model.specs.Reading.{list, field_by, tuple_kind, deepest, fields, returns}
 use Rattle.model.specs.Layout.{record_of}
 use Rattle.model.specs.Record.{encode_fields, encode_list}
 use Rattle.layout.specs.Buffer.{put, head}

@@ -1,24 +1,25 @@
 -- The words between a function's inputs and its outputs.
 -- Assumes nothing.
-use Rattle.std.proofs.Common.{◌≡◌, refl, sym, ◌∙◌, ap, ℕ, zero, suc, ◌+◌, ◌≤◌, ◌<◌, Bool, true, false, not, List, [], ◌∷◌, length, arith}
+use Rattle.std.proofs.Common.{◌≡◌, refl, sym, ◌∙◌, ap, ℕ, ◌≤◌, ◌<◌, Bool, true, false, not, ◌||◌, List, [], ◌∷◌, length, take, drop, arith, eqb}
 use Rattle.std.proofs.lemmas.Bool.{false≢true}
 use Rattle.std.specs.Prelude.{Option, None, Some}
 use mathlib.Core.Logic.{◌⊎◌, inl, inr}
-use borrow.Author.Tests.{lt-ltb, le-ltb}
+use borrow.Author.Tests.{lt-ltb, le-ltb, eqb-true}
 use Rattle.kinds.specs.Bytes.{is_word}
 use Rattle.model.specs.declared.Keyword.{Keyword}
 use Rattle.model.specs.declared.Keyword.TheVariants as key
-use Rattle.model.specs.Text.{first, peek}
+use Rattle.model.specs.Text.{char_of, blank, skip, first, peek, word_length}
 use Rattle.model.specs.Tree.{not_stated}
 use Rattle.model.specs.KindText.{Entry, lookup}
-use Rattle.model.specs.Parser.{got, then, word, keyword_of, option}
+use Rattle.model.specs.Parser.{got, then, word, word_end, keyword_of, option}
 use Rattle.model.specs.Reading.{mutabilities, visibilities, visibility, modifiers}
 use Rattle.model.specs.Record.{is_absent}
 use Rattle.model.proofs.Bounds.{In, Entries, lookup-of}
 use Rattle.model.proofs.Modifiers.{one-sort, word_first}
+use Rattle.model.proofs.Scans.{skip-none}
+use Rattle.model.proofs.Stands.{peek-first}
 use Rattle.text.specs.Found.{byte_or_end}
 use Rattle.fields.specs.declared.Seen.{Seen}
-use Rattle.fields.specs.declared.Word.{Word}
 use Rattle.fields.specs.Words.{WordIs, Looked}
 use Rattle.fields.proofs.Spots.{option-some as listed}
 use Rattle.parser.specs.declared.Stated.{Stated}
@@ -62,6 +63,43 @@ module _ (s : List ℕ) (at : ℕ) (v : Seen) (x : Bool) (l : Looked s at v) (f 
 
   pub unbegun : ModifierIs s at None
   unbegun = (unlisted visibilities ((refl, refl), ((refl, refl), tt)), unlisted mutabilities ((refl, refl), ((refl, refl), ((refl, refl), tt))))
+
+-- a word stands where a text begins, and no blank
+abbrev Opens : List ℕ → Type 0
+Opens t = (blank t ≡ 0) × (0 < length (take (word_length t) t))
+
+-- so it does by the first byte of a word of a table
+opens-word : (c : ℕ) (t : List ℕ) → begins_modifier c ≡ true → Opens (c ∷ t)
+unfolding blank char_of word_length
+opens-word c t h = go (eqb c 101) (eqb c 112) (eqb c 118) refl refl refl h
+  where
+    go : (x y z : Bool) → eqb c 101 ≡ x → eqb c 112 ≡ y → eqb c 118 ≡ z → (x || (y || z)) ≡ true → Opens (c ∷ t)
+    go true y z p q r k = rw (eqb-true c 101 p) (refl, omega arith)
+    go false true z p q r k = rw (eqb-true c 112 q) (refl, omega arith)
+    go false false z p q r k = rw (eqb-true c 118 (r ∙ k)) (refl, omega arith)
+
+-- by the byte behind the blanks, which begins a word of a table: the word that is read from there on is the one behind them
+module _ (s : List ℕ) (at : ℕ) (v : Seen) (x : Bool) (l : Looked s at v) (f : x ≡ begins_modifier (byte_or_end v.byte)) (g : x ≡ true) where
+  opens-there : Opens (drop v.at s)
+  opens-there = go (drop v.at s) refl
+    where
+      go : (t : List ℕ) → drop v.at s ≡ t → Opens t
+      go [] e = absurd (false≢true (ap begins_modifier (sym (l.byte ∙ peek-first s v.at [] e)) ∙ sym f ∙ g))
+      go (c ∷ t) e = opens-word c t (ap begins_modifier (sym (l.byte ∙ peek-first s v.at (c ∷ t) e)) ∙ sym f ∙ g)
+
+  here : skip s v.at ≡ v.at
+  here = skip-none s v.at opens-there.0
+
+  pub begun : (w : List ℕ) (n : ℕ) → WordIs s v.at w n → WordIs s at w n
+  unfolding word word_end
+  begun w n i =
+      let same : w ≡ take (word_length (drop v.at s)) (drop v.at s) = i.bytes ∙ rw (word, here) in record {
+        bytes = same ∙ rw (word, ← l.place);
+        end = λ p. i.end p ∙ rw (word_end, here, ← l.place);
+        stays = λ z. absurd (omega (arith, opens-there.1, z, ap length same));
+        low = omega (arith, i.low, l.low);
+        inside = i.inside;
+      }
 
 -- where no visibility word stands
 module _ (s : List ℕ) (at : ℕ) (e : lookup visibilities (word s at) ≡ None) where

@@ -1,6 +1,6 @@
 -- The definition of a declaration, stage by stage.
 -- Assumes nothing.
-use Rattle.std.proofs.Common.{◌≡◌, refl, sym, ap, ℕ, List, [], ◌∷◌, ◌++◌, append_assoc, append-nil}
+use Rattle.std.proofs.Common.{◌≡◌, refl, sym, ap, ℕ, List, [], ◌++◌, append_assoc, append-nil}
 use Rattle.model.specs.declared.Keyword.{Keyword}
 use Rattle.model.specs.declared.Keyword.TheVariants as key
 use Rattle.model.specs.Tree.{Fields, Declaration}

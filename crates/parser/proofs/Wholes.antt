@@ -1,6 +1,6 @@
 -- A declaration from its stages.
 -- Assumes nothing.
-use Rattle.std.proofs.Common.{◌≡◌, refl, sym, ◌∙◌, ap, subst, ℕ, ◌+◌, ◌*◌, ◌-◌, ◌≤◌, Bool, true, false, not, List, [], ◌∷◌, ◌++◌, length, take, drop, length-append, append_assoc, append-nil, arith}
+use Rattle.std.proofs.Common.{◌≡◌, refl, sym, ◌∙◌, ap, subst, ℕ, ◌+◌, ◌*◌, ◌≤◌, Bool, true, false, not, List, [], ◌++◌, length, length-append, append_assoc, append-nil, arith}
 use Rattle.std.proofs.lemmas.Bool.{false≢true}
 use Rattle.std.specs.Prelude.{Result, Ok, Err}
 use Rattle.std.specs.Result.{IsErrAnd}
@@ -25,7 +25,7 @@ use Rattle.fields.specs.Words.{to_taken}
 use Rattle.fields.specs.Scratch.{Read, read_to, failed, to_read, bytes_of, Begins, Room}
 use Rattle.parser.specs.declared.Stated.{Stated}
 use Rattle.parser.specs.declared.Written.{Written}
-use Rattle.parser.specs.Stages.{Did, ident_of, list_in, returns_of, sort_of, name_of, stated_of, StatedIs, outputs_of, code_of, number_of, front_length, front_of, Content, parts_of, to_parts, parts_bytes, PartsAre, Took, declaration_of, body_of, Whole}
+use Rattle.parser.specs.Stages.{Did, ident_of, list_in, returns_of, sort_of, name_of, StatedIs, outputs_of, code_of, number_of, front_length, front_of, Content, parts_of, to_parts, parts_bytes, PartsAre, Took, declaration_of, body_of, Whole}
 use Rattle.parser.proofs.Stepwise.{exec-is}
 use Rattle.fields.proofs.Begins.{begins-mid, begins-part, begins-under}
 use Rattle.fields.proofs.Family.{is-got, is-failed, then-failed, on-failed, read-failed, bytes-failed}

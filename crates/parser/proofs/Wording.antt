@@ -1,17 +1,17 @@
 -- Words: the keyword, the name, and what is stated behind the inputs.
 -- Assumes nothing.
-use Rattle.std.proofs.Common.{◌≡◌, refl, sym, ◌∙◌, ap, subst, ℕ, zero, suc, ◌+◌, ◌*◌, ◌-◌, ◌≤◌, ◌<◌, Bool, true, false, List, [], ◌∷◌, ◌++◌, length, take, drop, length-append, arith, eqb, eqb-true}
+use Rattle.std.proofs.Common.{◌≡◌, refl, sym, ◌∙◌, ap, subst, ℕ, zero, suc, ◌+◌, ◌≤◌, ◌<◌, Bool, true, false, List, [], ◌∷◌, ◌++◌, length, length-append, arith, eqb, eqb-true}
 use Rattle.std.proofs.lemmas.Bool.{false≢true}
 use Rattle.std.specs.Prelude.{Option, None, Some, Ok, Err}
-use Rattle.kinds.specs.Bytes.{ascii, same}
+use Rattle.kinds.specs.Bytes.{same}
 use Rattle.kinds.proofs.Logic.{same_equal}
 use Rattle.model.specs.declared.Refusal.TheVariants.{ExpectKeyword, ExpectIdentifier}
 use Rattle.model.specs.declared.Keyword.{Keyword}
 use Rattle.model.specs.declared.Refused.{Refused}
 use Rattle.model.specs.declared.Keyword.TheVariants as key
 use Rattle.model.specs.Answer.{at_start}
-use Rattle.model.specs.KindText.{Entry, entry, lookup}
-use Rattle.model.specs.Parser.{got, Found, found, missing, found_by, on_ans, require, word, word_end, keyword_of, look_ident, is_ident, ident, keyword, option}
+use Rattle.model.specs.KindText.{entry, lookup}
+use Rattle.model.specs.Parser.{got, found, missing, on_ans, keyword_of, look_ident, ident, keyword}
 use Rattle.model.specs.Reading.{keyword_text}
 use Rattle.model.specs.Layout.{record_of}
 use Rattle.model.specs.Record.{encode_name}

@@ -249,13 +249,15 @@ fn begins_modifier(byte: Option<u8>) -> bool
     matches!(byte, Some(b'e' | b'p' | b'v'))
 }
 
-// The word behind any blanks, if it may be a visibility word or a mutability word: most other words are told by their first byte.
+// The word behind any blanks, if it may be a visibility word or a mutability word: most other words are told by their first byte. It is read from
+// that byte on, so that the blanks are passed over once.
 fn modifier(s: &[u8], at: usize) -> Option<Word<'_>>
     requires { at ≤ length s.now }
     ensures { ModifierIs s.now at result }
 {
-    if begins_modifier(fields::look(s, at).byte) {
-        return Some(fields::next_word(s, at));
+    let seen = fields::look(s, at);
+    if begins_modifier(seen.byte) {
+        return Some(fields::next_word(s, seen.at));
     }
     None
 }

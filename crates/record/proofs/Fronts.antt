@@ -1,21 +1,19 @@
 -- A field's mark and name, and a declaration's name, by how the code ends.
 -- Assumes nothing.
 use mathlib.Core.Path.{◌≡◌, refl, sym, ◌∙◌, ap, ap₂, subst}
-use mathlib.Core.Bool.{Bool, true, false, ◌&&◌, false≢true, and-eq-true_iff}
-use mathlib.Core.List.{List, []}
+use mathlib.Core.Bool.{Bool, true, false, ◌&&◌}
+use mathlib.Core.List.{List}
 use Rattle.std.specs.Prelude.{Option, None, Some}
-use Prim.Native.Nat.{ℕ, ◌-◌, ◌≤◌}
-use native.Mathlib.Omega.{arith}
-use lib.Dec.{leb, eqb}
-use lib.ListN.{length, take, drop, length-drop}
-use lib.Seq.{length-take-le}
-use borrow.Author.Tests.{ne_eqb, leb-true}
+use Prim.Native.Nat.{ℕ, ◌-◌}
+use lib.Dec.{eqb}
+use lib.ListN.{length, take, drop}
+use borrow.Author.Tests.{ne_eqb}
 use Rattle.kinds.specs.Bytes.{is_word}
 use Rattle.model.specs.declared.Sort.{Sort}
 use Rattle.model.specs.Tree.{Declaration}
 use Rattle.model.specs.declared.Mark.{Mark}
 use Rattle.model.specs.Mark.{mark_number}
-use Rattle.model.specs.Layout.{le_value, Piece as Taken, piece, no_piece, piece_of}
+use Rattle.model.specs.Layout.{Piece as Taken, piece, no_piece, piece_of}
 use Rattle.model.specs.Record.{is_field_name, when, of_kind, on_piece, name_from}
 use Rattle.model.proofs.Scans.{part-rest}
 use Rattle.record.specs.declared.Piece.{Piece}
@@ -25,28 +23,7 @@ use Rattle.record.specs.Says.{NameIs}
 use Rattle.record.specs.Texts.{is_mark_at, kind_from, field_text_from}
 use Rattle.record.proofs.Equations.{field-short, field-named, named_by}
 use Rattle.record.proofs.Names.{mark-over}
-
--- the body of a piece stands behind its head
-piece-body : (b : List ℕ) (p : Piece) → PieceIs b (Some p) → take (length p.body.now) (drop 6 b) ≡ p.body.now
-unfolding taken piece_of
-piece-body b p i = go (leb 6 (le_value (take 4 b)) && leb (le_value (take 4 b)) (length b)) refl
-  where
-    is_piece : Taken → Bool
-    is_piece no_piece = false
-    is_piece (piece k c r) = true
-
-    body-of : Taken → List ℕ
-    body-of no_piece = []
-    body-of (piece k c r) = c
-
-    go : (t : Bool) → (leb 6 (le_value (take 4 b)) && leb (le_value (take 4 b)) (length b)) ≡ t → take (length p.body.now) (drop 6 b) ≡ p.body.now
-    go false q = absurd (false≢true (sym (ap is_piece (rw (piece_of, q) at i.same))))
-    go true q =
-        let n : ℕ = le_value (take 4 b) in
-        let (low, high) = (and-eq-true_iff _ _).0 q in
-        let most : n ≤ length b = leb-true _ _ high in
-        let e : p.body.now ≡ take (n - 6) (drop 6 b) = ap body-of (rw (piece_of, q) at i.same) in
-        rw e (ap (λ k. take k (drop 6 b)) (length-take-le (n - 6) (drop 6 b) (rw length-drop (omega arith))))
+use Rattle.record.proofs.Places.{piece-body, piece-stands, rest-stands}
 
 module _ (sort : Sort) (body : List ℕ) where
   -- no number, no mark, no name
@@ -123,4 +100,4 @@ module _ (b : List ℕ) where
       name-bad e f = there f ∙ rw (y, spelled, e)
 
       pub name-is : w ≡ true → NameIs b (Some n)
-      name-is e = (λ f. there f ∙ rw (y, spelled, e), p.covers)
+      name-is e = (λ f. there f ∙ rw (y, spelled, e), p.covers, piece-stands b n p, rest-stands b n p)

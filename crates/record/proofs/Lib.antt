@@ -1,5 +1,6 @@
 pub mod Pieces
 pub mod Standing
+pub mod Places
 pub mod Lengths
 pub mod Loops
 pub mod Located

@@ -1,21 +1,21 @@
 -- Lists and declarations, and a field by itself, by how the check of each ends.
 -- Assumes nothing.
 use mathlib.Core.Path.{◌≡◌, refl, sym, ◌∙◌, ap}
-use mathlib.Core.Bool.{false}
+use mathlib.Core.Bool.{Bool, true, false}
 use mathlib.Core.List.{List, [], ◌∷◌}
 use Rattle.std.specs.Prelude.{Option, None, Some}
 use Rattle.std.proofs.lemmas.Option.{none-some, same_Some}
 use Prim.Native.Nat.{ℕ, ◌+◌, ◌*◌, ◌≤◌, ◌<◌}
 use native.Mathlib.Omega.{arith}
-use lib.Dec.{leb}
+use lib.Dec.{leb, eqb}
 use lib.ListN.{length, length-drop}
 use borrow.Author.Tests.{le-leb, lt-leb, ne_eqb}
-use Rattle.kinds.specs.Bytes.{between}
+use Rattle.kinds.specs.Bytes.{between, is_word}
 use Rattle.kinds.specs.Kind.{Kind, kind_text}
 use Rattle.model.specs.declared.Sort.{Sort}
 use Rattle.model.specs.declared.Sort.TheVariants.{Plain, Parameter, Event}
 use Rattle.model.specs.Tree.{Field, Fields, kinds_of, Declaration}
-use Rattle.model.specs.Layout.{piece}
+use Rattle.model.specs.Layout.{Piece as Taken, piece, no_piece, piece_of}
 use Rattle.model.specs.Record.{given, on_option, when, ended, on_piece, of_kind, fronted, decode_field, decode_fields, list_from, name_from, function_from, constructor_from, event_from, error_from, longest_record}
 use Rattle.record.specs.declared.Piece.{Piece}
 use Rattle.record.specs.declared.Fronted.{Fronted}
@@ -24,6 +24,7 @@ use Rattle.record.specs.declared.Checked.{Checked}
 use Rattle.record.specs.Parts.{taken, PieceIs, FrontedIs}
 use Rattle.record.specs.Says.{Says, FunctionSaid, ConstructorSaid, EventSaid, ErrorSaid, NameIs, ListIs}
 use Rattle.record.specs.Texts.{size, fields_from, tuple_text_from}
+use Rattle.record.proofs.Places.{piece-stands, rest-stands}
 
 -- a list
 pub fields-decode : (sort : Sort) (body : List ℕ) → fields_from sort 32 body ≡ decode_fields 4 sort body
@@ -66,6 +67,8 @@ module _ (sort : Sort) (b : List ℕ) where
             goes = λ f. listed f ∙ rw (e, v);
             said = λ s. record { same = rw u e; long = same_Some _ _ q; small = rw u m; short = rw u (omega (arith, p.covers, s)) };
             less = rw v (omega (arith, p.covers));
+            listed = rw u (piece-stands b n p);
+            behind = rw v (rest-stands b n p);
           }
 
 -- a number in front, and the end
@@ -89,6 +92,37 @@ module _ {A : Type 0} where
   ended-more [] o h = absurd (h refl)
   ended-more (c ∷ t) o h = refl
 
+-- a name or a list behind which nothing follows
+name_dead : (b : List ℕ) (f : List ℕ → List ℕ → Option Declaration) → ((nm r : List ℕ) → f nm r ≡ None) → name_from 4 b f ≡ None
+name_dead b f h = go (piece_of 4 b)
+  where
+    word : (t : Bool) (nm r : List ℕ) → when t (f nm r) ≡ None
+    word true nm r = h nm r
+    word false nm r = refl
+
+    kind : (t : Bool) (nm r : List ℕ) → ◌≡◌ {A = Option Declaration} (elim t as (λ _. Option Declaration) [ true ↦ when (is_word nm) (f nm r) | false ↦ None ]) None
+    kind true nm r = word (is_word nm) nm r
+    kind false nm r = refl
+
+    go : (p : Taken) → of_kind 0x11 p (λ nm r. when (is_word nm) (f nm r)) ≡ None
+    go no_piece = refl
+    go (piece k nm r) = kind (eqb k 0x11) nm r
+
+list_dead : (sort : Sort) (b : List ℕ) (f : Fields → List ℕ → Option Declaration) → ((fs : Fields) (r : List ℕ) → f fs r ≡ None) → list_from 4 sort b f ≡ None
+list_dead sort b f h = go (piece_of 4 b)
+  where
+    fields : (o : Option Fields) (r : List ℕ) → given o (λ fs. f fs r) ≡ None
+    fields None r = refl
+    fields (Some fs) r = h fs r
+
+    kind : (t : Bool) (body r : List ℕ) → ◌≡◌ {A = Option Declaration} (elim t as (λ _. Option Declaration) [ true ↦ given (decode_fields 4 sort body) (λ fs. f fs r) | false ↦ None ]) None
+    kind true body r = fields (decode_fields 4 sort body) r
+    kind false body r = refl
+
+    go : (p : Taken) → of_kind 0x12 p (λ body r. given (decode_fields 4 sort body) (λ fs. f fs r)) ≡ None
+    go no_piece = refl
+    go (piece k body r) = kind (eqb k 0x12) body r
+
 -- nothing is said
 nothing : (o : Option Declaration) (r : Option Checked) → r ≡ None → o ≡ None → Says o None r
 nothing o r e h = rw e (h, refl)
@@ -111,6 +145,11 @@ module _ (b : List ℕ) where
     function-front : function_from 4 b ≡ name_from 4 t.rest.now (function_in t.number)
     function-front = fronted-is b (λ m r. name_from 4 r (function_in m)) t h
 
+    pub function-mutability : 3 < t.number → (function_from 4 b ≡ None) × (◌≡◌ {A = Option Field} None None)
+    function-mutability z =
+        let last : (nm : List ℕ) (ins outs : Fields) (r : List ℕ) → function_end t.number nm ins outs r ≡ None = λ nm ins outs r. rw (lt-leb t.number 3 z) (ended-none r) in
+        (function-front ∙ name_dead t.rest.now _ (λ nm r. list_dead Parameter r _ (λ ins s. list_dead Parameter s _ (λ outs q. last nm ins outs q))), refl)
+
     pub function-unnamed : (r : Option Checked) → r ≡ None → NameIs t.rest.now None → Says (function_from 4 b) None r
     function-unnamed r e i = nothing _ r e (function-front ∙ i _)
 
@@ -131,9 +170,6 @@ module _ (b : List ℕ) where
         module _ (u : Listed) (k : ListIs Parameter l.rest.now (Some u)) where
           function-outputs : function_from 4 b ≡ function_end t.number n.body.now j.fs k.fs u.rest.now
           function-outputs = function-inputs ∙ k.goes _
-
-          pub function-mutability : 3 < t.number → (function_from 4 b ≡ None) × (◌≡◌ {A = Option Field} None None)
-          function-mutability z = (function-outputs ∙ rw (lt-leb t.number 3 z) (ended-none u.rest.now), refl)
 
           pub function-more : (length u.rest.now ≡ 0 → ⊥) → (function_from 4 b ≡ None) × (◌≡◌ {A = Option Field} None None)
           function-more z = (function-outputs ∙ ended-more u.rest.now _ z, refl)
@@ -167,21 +203,21 @@ module _ (b : List ℕ) where
     constructor-front : constructor_from 4 b ≡ list_from 4 Parameter t.rest.now (constructor_end t.number)
     constructor-front = fronted-is b (λ m r. list_from 4 Parameter r (constructor_end m)) t h
 
+    constructor-not : between 2 3 t.number ≡ false → (constructor_from 4 b ≡ None) × (◌≡◌ {A = Option Field} None None)
+    constructor-not z = (constructor-front ∙ list_dead Parameter t.rest.now _ (λ ins r. rw z (ended-none r)), refl)
+
+    pub constructor-low : t.number < 2 → (constructor_from 4 b ≡ None) × (◌≡◌ {A = Option Field} None None)
+    constructor-low z = constructor-not (rw (lt-leb 2 t.number z))
+
+    pub constructor-high : 3 < t.number → (constructor_from 4 b ≡ None) × (◌≡◌ {A = Option Field} None None)
+    constructor-high z = constructor-not (rw (le-leb 2 t.number (omega arith), lt-leb t.number 3 z))
+
     pub constructor_no_inputs : (r : Option Checked) → r ≡ None → ListIs Parameter t.rest.now None → Says (constructor_from 4 b) None r
     constructor_no_inputs r e j = nothing _ r e (constructor-front ∙ j _)
 
     module _ (l : Listed) (j : ListIs Parameter t.rest.now (Some l)) where
       constructor-inputs : constructor_from 4 b ≡ constructor_end t.number j.fs l.rest.now
       constructor-inputs = constructor-front ∙ j.goes _
-
-      constructor-not : between 2 3 t.number ≡ false → (constructor_from 4 b ≡ None) × (◌≡◌ {A = Option Field} None None)
-      constructor-not z = (constructor-inputs ∙ rw z (ended-none l.rest.now), refl)
-
-      pub constructor-low : t.number < 2 → (constructor_from 4 b ≡ None) × (◌≡◌ {A = Option Field} None None)
-      constructor-low z = constructor-not (rw (lt-leb 2 t.number z))
-
-      pub constructor-high : 3 < t.number → (constructor_from 4 b ≡ None) × (◌≡◌ {A = Option Field} None None)
-      constructor-high z = constructor-not (rw (le-leb 2 t.number (omega arith), lt-leb t.number 3 z))
 
       pub constructor-more : (length l.rest.now ≡ 0 → ⊥) → (constructor_from 4 b ≡ None) × (◌≡◌ {A = Option Field} None None)
       constructor-more z = (constructor-inputs ∙ ended-more l.rest.now _ z, refl)
@@ -206,6 +242,9 @@ module _ (b : List ℕ) where
     event-front : event_from 4 b ≡ name_from 4 t.rest.now (event_in t.number)
     event-front = fronted-is b (λ a r. name_from 4 r (event_in a)) t h
 
+    pub event-high : 1 < t.number → (event_from 4 b ≡ None) × (◌≡◌ {A = Option Field} None None)
+    event-high z = (event-front ∙ name_dead t.rest.now _ (λ nm r. list_dead Event r _ (λ ins s. rw (lt-leb t.number 1 z) (ended-none s))), refl)
+
     pub event-unnamed : (r : Option Checked) → r ≡ None → NameIs t.rest.now None → Says (event_from 4 b) None r
     event-unnamed r e i = nothing _ r e (event-front ∙ i _)
 
@@ -219,9 +258,6 @@ module _ (b : List ℕ) where
       module _ (l : Listed) (j : ListIs Event n.rest.now (Some l)) where
         event-inputs : event_from 4 b ≡ event_end t.number n.body.now j.fs l.rest.now
         event-inputs = event-named ∙ j.goes _
-
-        pub event-high : 1 < t.number → (event_from 4 b ≡ None) × (◌≡◌ {A = Option Field} None None)
-        event-high z = (event-inputs ∙ rw (lt-leb t.number 1 z) (ended-none l.rest.now), refl)
 
         pub event-more : (length l.rest.now ≡ 0 → ⊥) → (event_from 4 b ≡ None) × (◌≡◌ {A = Option Field} None None)
         event-more z = (event-inputs ∙ ended-more l.rest.now _ z, refl)

@@ -24,6 +24,12 @@ pub record PieceIs (b : List ℕ) (r : Option Piece) : Type 0 where
   pub same : taken r ≡ piece_of 4 b
   pub covers : Covers b r
 
+-- p stands at a place of b
+pub record StandsIn (b p : List ℕ) : Type 0 where
+  pub from : ℕ
+  pub there : take (length p) (drop from b) ≡ p
+  pub inside : from + length p ≤ length b
+
 -- b begins with a record
 pub record Headed (b : List ℕ) : Type 0 where
   pub low : 6 ≤ le_value (take 4 b)

@@ -1,6 +1,6 @@
 -- What the check answers, by the definitions.
 -- Assumes nothing.
-use Rattle.std.specs.Prelude.{◌≡◌, List, ℕ, ◌+◌, ◌*◌, ◌≤◌, length, Option, None, Some}
+use Rattle.std.specs.Prelude.{◌≡◌, List, ℕ, ◌+◌, ◌*◌, ◌≤◌, length, Option, None, Some, IfSome}
 use Rattle.kinds.specs.Kind.{Kind, kind_text}
 use Rattle.model.specs.declared.Sort.{Sort}
 use Rattle.model.specs.declared.Sort.TheVariants.{Plain, Parameter, Event as EventSort}
@@ -15,7 +15,7 @@ use Rattle.record.specs.declared.Listed.{Listed}
 use Rattle.record.specs.declared.Piece.{Piece}
 use Rattle.record.specs.declared.Checked.{Checked}
 use Rattle.record.specs.declared.Checked.TheVariants as checked
-use Rattle.record.specs.Parts.{Covers}
+use Rattle.record.specs.Parts.{Covers, StandsIn}
 use Rattle.record.specs.Texts.{kind_from}
 
 -- nm is the name that bytes spell
@@ -93,12 +93,19 @@ Says o f (Some (checked.Constructor i)) = ConstructorSaid o i × (f ≡ None)
 Says o f (Some (checked.Field nm l)) = (o ≡ None) × FieldSaid f nm.now l
 Says o f None = (o ≡ None) × (f ≡ None)
 
+-- the parts that an answer holds stand at places of the record b; which of them, where the same bytes stand twice, is not said
+abbrev pub PartsStand : List ℕ → Option Checked → Type 0
+PartsStand b (Some (checked.Declared k nm i u)) = StandsIn b nm.now × StandsIn b i.bytes.now × IfSome u (λ l. StandsIn b l.bytes.now)
+PartsStand b (Some (checked.Constructor i)) = StandsIn b i.bytes.now
+PartsStand b (Some (checked.Field nm l)) = StandsIn b nm.now × StandsIn b l.bytes.now
+PartsStand b None = Unit {0}
+
 -- Parts of a declaration, as the code takes them apart: what is read behind each goes on with what stands behind it.
 
 -- the name that b begins with
 abbrev pub NameIs : List ℕ → Option Piece → Type 0
 NameIs b None = (f : List ℕ → List ℕ → Option Declaration) → name_from 4 b f ≡ None
-NameIs b (Some p) = ((f : List ℕ → List ℕ → Option Declaration) → name_from 4 b f ≡ f p.body.now p.rest.now) × Covers b (Some p)
+NameIs b (Some p) = ((f : List ℕ → List ℕ → Option Declaration) → name_from 4 b f ≡ f p.body.now p.rest.now) × Covers b (Some p) × StandsIn b p.body.now × StandsIn b p.rest.now
 
 -- the list of a sort that b begins with
 pub record ListRead (sort : Sort) (b : List ℕ) (l : Listed) : Type 0 where
@@ -106,6 +113,8 @@ pub record ListRead (sort : Sort) (b : List ℕ) (l : Listed) : Type 0 where
   pub goes : (f : Fields → List ℕ → Option Declaration) → list_from 4 sort b f ≡ f fs l.rest.now
   pub said : length b ≤ longest_record → ListSaid sort l.fields fs
   pub less : length l.rest.now ≤ length b
+  pub listed : StandsIn b l.fields.bytes.now
+  pub behind : StandsIn b l.rest.now
 
 abbrev pub ListIs : Sort → List ℕ → Option Listed → Type 0
 ListIs sort b None = (f : Fields → List ℕ → Option Declaration) → list_from 4 sort b f ≡ None

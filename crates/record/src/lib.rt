@@ -8,7 +8,7 @@ ghost use Rattle.model.specs.declared.Sort.TheVariants.{Plain};
 ghost use Rattle.model.specs.Mark.{mark_number};
 ghost use Rattle.model.specs.Record.{is_field_name, decode_field, function_from, constructor_from, event_from, error_from, decode, decode_lone, longest_record};
 ghost use Rattle.record.specs.Parts.{PieceIs, Headed, FrontedIs, MarkIs, FrontIs};
-ghost use Rattle.record.specs.Says.{Says, NameIs, ListIs};
+ghost use Rattle.record.specs.Says.{Says, PartsStand, NameIs, ListIs};
 ghost use Rattle.record.specs.Texts.{size, AtMost, located_from, is_free, is_mark_at, elementary_from, suffix_from, suffixes_from, base_text_from, kind_from, field_text_from, tuple_text_from};
 
 use layout::{
@@ -358,7 +358,7 @@ fn front(body: &[u8], sort: Sort) -> Option<Piece<'_>>
     }
 }
 
-// Declarations.
+// Declarations. A number in front that none may have is told before the name and the lists are read, which takes time by their length.
 
 // A part of a record, with the length of the text that it stands for: the fields of a list, in brackets, or a base and its suffixes.
 #[derive(Clone, Copy, Debug, PartialEq, Eq)]
@@ -425,13 +425,17 @@ fn list(b: &[u8], sort: Sort) -> Option<Listed<'_>>
 #[tactic(auto, using(crate::proofs::Tops::tops))]
 fn function(body: &[u8]) -> Option<Checked<'_>>
     requires { length body.now ≤ longest_record }
-    ensures { Says (function_from 4 body.now) None result }
+    ensures says { Says (function_from 4 body.now) None result }
+    ensures within { PartsStand body.now result }
 {
     let stated = stated(body)?;
+    if PAYABLE < stated.number {
+        return None;
+    }
     let name = name(stated.rest)?;
     let inputs = list(name.rest, Sort::Parameter)?;
     let outputs = list(inputs.rest, Sort::Parameter)?;
-    if PAYABLE < stated.number || !outputs.rest.is_empty() {
+    if !outputs.rest.is_empty() {
         return None;
     }
     Some(Checked::Declared {
@@ -443,14 +447,18 @@ fn function(body: &[u8]) -> Option<Checked<'_>>
 }
 
 // "constructor: mutability (2 or 3); inputs"
-#[tactic(auto, using(crate::proofs::Tops::tops))]
+#[tactic(auto, using(crate::proofs::Tops::tops, crate::proofs::Places::standing))]
 fn constructor(body: &[u8]) -> Option<Checked<'_>>
     requires { length body.now ≤ longest_record }
-    ensures { Says (constructor_from 4 body.now) None result }
+    ensures says { Says (constructor_from 4 body.now) None result }
+    ensures within { PartsStand body.now result }
 {
     let stated = stated(body)?;
+    if !matches!(stated.number, UNSTATED..=PAYABLE) {
+        return None;
+    }
     let inputs = list(stated.rest, Sort::Parameter)?;
-    if !matches!(stated.number, UNSTATED..=PAYABLE) || !inputs.rest.is_empty() {
+    if !inputs.rest.is_empty() {
         return None;
     }
     Some(Checked::Constructor {
@@ -462,12 +470,16 @@ fn constructor(body: &[u8]) -> Option<Checked<'_>>
 #[tactic(auto, using(crate::proofs::Tops::tops))]
 fn event(body: &[u8]) -> Option<Checked<'_>>
     requires { length body.now ≤ longest_record }
-    ensures { Says (event_from 4 body.now) None result }
+    ensures says { Says (event_from 4 body.now) None result }
+    ensures within { PartsStand body.now result }
 {
     let anonymous = stated(body)?;
+    if ANONYMOUS < anonymous.number {
+        return None;
+    }
     let name = name(anonymous.rest)?;
     let inputs = list(name.rest, Sort::Event)?;
-    if ANONYMOUS < anonymous.number || !inputs.rest.is_empty() {
+    if !inputs.rest.is_empty() {
         return None;
     }
     Some(Checked::Declared {
@@ -479,10 +491,11 @@ fn event(body: &[u8]) -> Option<Checked<'_>>
 }
 
 // "error: name; inputs"
-#[tactic(auto, using(crate::proofs::Tops::tops))]
+#[tactic(auto, using(crate::proofs::Tops::tops, crate::proofs::Places::standing))]
 fn error(body: &[u8]) -> Option<Checked<'_>>
     requires { length body.now ≤ longest_record }
-    ensures { Says (error_from 4 body.now) None result }
+    ensures says { Says (error_from 4 body.now) None result }
+    ensures within { PartsStand body.now result }
 {
     let name = name(body)?;
     let inputs = list(name.rest, Sort::Plain)?;
@@ -501,7 +514,8 @@ fn error(body: &[u8]) -> Option<Checked<'_>>
 #[tactic(auto, using(crate::proofs::Whole::wholes))]
 fn lone(body: &[u8]) -> Option<Checked<'_>>
     requires { length body.now ≤ longest_record }
-    ensures { Says None (decode_field 4 Plain 0x10 body.now) result }
+    ensures says { Says None (decode_field 4 Plain 0x10 body.now) result }
+    ensures within { PartsStand body.now result }
 {
     let name = front(body, Sort::Plain)?;
     let text = kind(name.rest, DEEPEST)?;
@@ -517,7 +531,8 @@ fn lone(body: &[u8]) -> Option<Checked<'_>>
 // What a record says, if it is well formed.
 #[tactic(auto, using(crate::proofs::Whole::wholes))]
 pub fn check(b: &[u8]) -> Option<Checked<'_>>
-    ensures { Says (decode b.now) (decode_lone b.now) result }
+    ensures says { Says (decode b.now) (decode_lone b.now) result }
+    ensures within { PartsStand b.now result }
 {
     if LONGEST_RECORD < b.len() {
         return None;

@@ -168,7 +168,7 @@ pub fn fingerprint(record: &[u8], scratch: &mut [u8]) -> u32
 
 // Whether a fingerprint is among others: no early exit, so that several are looked at in one step.
 #[tactic(auto, using(crate::proofs::Printing::any_folded))]
-fn among(prints: &[u32], h: u32) -> bool
+pub fn among(prints: &[u32], h: u32) -> bool
     ensures { result ≡ list_any (λ p. p == h) prints.now }
 {
     prints.iter().fold(false, |found, p| found | (*p == h))

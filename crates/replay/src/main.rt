@@ -281,33 +281,51 @@ fn says_refusal(row: &[u8], asked: Asked, text: &[u8], refused: Refused) -> bool
         && is_number(tables::field(row, 4), refused.position as u64)
 }
 
-// Whether a call answers a text as the row says.
-fn agrees(row: &[u8], asked: Asked, text: &[u8]) -> bool {
-    let mut record = [0; RECORD];
-    match tables::ask(asked, text, &mut record) {
-        Ok(length) => record
+// Whether a call answers a text as the row says. The call writes into the buffer that is lent.
+fn agrees(row: &[u8], asked: Asked, text: &[u8], buffer: &mut [u8]) -> bool {
+    match tables::ask(asked, text, buffer) {
+        Ok(length) => buffer
             .get(..length)
             .is_some_and(|record| says_record(row, asked, record)),
         Err(refused) => says_refusal(row, asked, text, refused),
     }
 }
 
-// A text that is not decoded whole differs.
-fn replay_row<P: Print>(rt: &P, counts: &mut Counts, row: &[u8]) -> io::Result<()> {
+// A text that is not decoded whole differs. The text and what a call writes of it stand in what is lent.
+fn replay_row<P: Print>(
+    rt: &P,
+    counts: &mut Counts,
+    text: &mut Text,
+    buffer: &mut [u8],
+    row: &[u8],
+) -> io::Result<()> {
     let asked = tables::asked_by(tables::field(row, 0));
     let hex = tables::field(row, 1);
-    let text: Text = tables::bytes_of(hex);
+    text.clear();
+    tables::put_hex(text, hex);
     let same = match asked {
-        Some(asked) => is_hex(hex, &text) && agrees(row, asked, &text),
+        Some(asked) => is_hex(hex, text) && agrees(row, asked, text, buffer),
         None => false,
     };
     counts.count(rt, asked, same)
 }
 
 // Replays whole lines.
-fn replay_lines<P: Print>(rt: &P, counts: &mut Counts, lines: &[u8]) -> io::Result<()> {
+fn replay_lines<P: Print>(
+    rt: &P,
+    counts: &mut Counts,
+    text: &mut Text,
+    buffer: &mut [u8],
+    lines: &[u8],
+) -> io::Result<()> {
     for line in lines.split_inclusive(|&byte| byte == b'\n') {
-        replay_row(rt, counts, line.strip_suffix(b"\n").unwrap_or(line))?;
+        replay_row(
+            rt,
+            counts,
+            text,
+            buffer,
+            line.strip_suffix(b"\n").unwrap_or(line),
+        )?;
     }
     Ok(())
 }
@@ -326,6 +344,8 @@ fn whole_lines(window: &[u8]) -> usize
 // that none uses up.
 fn replay_list<P: Input + Print>(rt: &P, counts: &mut Counts) -> io::Result<()> {
     let mut window = ArrayVec::<u8, WINDOW>::new();
+    let mut text = Text::new();
+    let mut buffer = [0; RECORD];
     for _ in 0..u64::MAX {
         let held = window.len();
         let room = window.remaining_capacity() as u64;
@@ -334,7 +354,7 @@ fn replay_list<P: Input + Print>(rt: &P, counts: &mut Counts) -> io::Result<()> 
             break;
         }
         let done = whole_lines(&window);
-        replay_lines(rt, counts, &window[..done])?;
+        replay_lines(rt, counts, &mut text, &mut buffer, &window[..done])?;
         window.drain(..done);
     }
     if !window.is_empty() {

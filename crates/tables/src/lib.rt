@@ -1,7 +1,11 @@
 // What the test programs share: the input and its rows, bytes in hex, the calls by their names, answers printed, and whether a lent buffer was left alone.
 #![tactic(auto)]
 
-ghost use Rattle.std.specs.Prelude.{IfSome, ◌≤◌, ◌<◌, ◌^◌};
+ghost use Rattle.std.specs.Prelude.{IfSome, ◌≡◌, ◌-◌, ◌≤◌, ◌<◌, ◌^◌, ◌++◌, take, length};
+ghost use Rattle.model.specs.Answer.{said, outcome, after};
+ghost use Rattle.model.specs.KindText.{lookup};
+ghost use Rattle.tables.specs.Hex.{digit_value, byte_value, bytes_value};
+ghost use Rattle.tables.specs.Asked.{asked_output, call_names, asked_named};
 
 use arrayvec::ArrayVec;
 use model::{Answer, Call, Refused};
@@ -87,10 +91,11 @@ pub fn read_input<const N: usize>(rt: &impl Input) -> io::Result<ArrayVec<u8, N>
 }
 
 // What has no room is left out.
-pub fn put<const N: usize>(out: &mut ArrayVec<u8, N>, bytes: &[u8]) {
-    for &byte in bytes {
-        let _ = out.try_push(byte);
-    }
+pub fn put<const N: usize>(out: &mut ArrayVec<u8, N>, bytes: &[u8])
+    ensures { out.new.items ≡ out.old.items ++ take (N - length out.old.items) bytes.now }
+{
+    let fitting = bytes.len().min(out.remaining_capacity());
+    let _ = out.try_extend_from_slice(&bytes[..fitting]);
 }
 
 // Rows.
@@ -141,7 +146,10 @@ impl fmt::Display for Asked {
     }
 }
 
-pub fn ask(asked: Asked, text: &[u8], out: &mut [u8]) -> Answer {
+pub fn ask(asked: Asked, text: &[u8], out: &mut [u8]) -> Answer
+    ensures says { said result ≡ outcome (length out.old) (asked_output asked text.now) }
+    ensures left { out.new ≡ after out.old (asked_output asked text.now) }
+{
     match asked {
         Asked::Declaration(call) => declaration::read(call, text, out),
         Asked::Kind => kind_call::parse_kind(text, out),
@@ -149,7 +157,9 @@ pub fn ask(asked: Asked, text: &[u8], out: &mut [u8]) -> Answer {
 }
 
 // The reading call of declarations that has a name.
-pub fn call_of(name: &[u8]) -> Option<Call> {
+pub fn call_of(name: &[u8]) -> Option<Call>
+    ensures { result ≡ lookup call_names name.now }
+{
     match name {
         b"general" => Some(Call::General),
         b"function" => Some(Call::Function),
@@ -160,7 +170,9 @@ pub fn call_of(name: &[u8]) -> Option<Call> {
     }
 }
 
-pub fn asked_by(name: &[u8]) -> Option<Asked> {
+pub fn asked_by(name: &[u8]) -> Option<Asked>
+    ensures { result ≡ asked_named name.now }
+{
     if name == b"kind".as_slice() {
         return Some(Asked::Kind);
     }
@@ -170,7 +182,8 @@ pub fn asked_by(name: &[u8]) -> Option<Asked> {
 // Hex: the library reads digits of characters alone.
 
 fn digit(c: u8) -> Option<u8>
-    ensures { IfSome result (λ d. d ≤ 15) }
+    ensures small { IfSome result (λ d. d ≤ 15) }
+    ensures same { result ≡ digit_value c }
 {
     match c {
         b'0'..=b'9' => Some(c - b'0'),
@@ -180,23 +193,25 @@ fn digit(c: u8) -> Option<u8>
 }
 
 // The byte that two hex digits stand for.
-pub fn byte_of(hex: &[u8]) -> Option<u8> {
+pub fn byte_of(hex: &[u8]) -> Option<u8>
+    ensures { result ≡ byte_value hex.now }
+{
     match hex {
         [high, low] => Some(16 * digit(*high)? + digit(*low)?),
         _ => None,
     }
 }
 
-// The bytes of hex digits, up to what is no byte, or as many as there is room for.
-pub fn bytes_of<const N: usize>(hex: &[u8]) -> ArrayVec<u8, N> {
-    let mut bytes = ArrayVec::<u8, N>::new();
+// Puts the bytes of hex digits, up to what is no byte, or as many as there is room for.
+pub fn put_hex<const N: usize>(out: &mut ArrayVec<u8, N>, hex: &[u8])
+    ensures { out.new.items ≡ out.old.items ++ take (N - length out.old.items) (bytes_value hex.now) }
+{
     for pair in hex.chunks(2) {
         let Some(byte) = byte_of(pair) else {
             break;
         };
-        if bytes.try_push(byte).is_err() {
+        if out.try_push(byte).is_err() {
             break;
         }
     }
-    bytes
 }

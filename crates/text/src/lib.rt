@@ -173,8 +173,9 @@ pub struct Char {
 }
 
 // A character of len bytes, the first of which stands for lead: it wants so many since its code point is at least low. No overlong form, no surrogate,
-// at most 10FFFF.
+// at most 10FFFF. Inlined, so that the answer stays out of memory.
 #[tactic(auto, unfolding(crate::specs::Found::char_from))]
+#[inline(always)]
 fn scalar(len: usize, low: u32, lead: u32, rest: &[u8]) -> Option<Char>
     requires { (0 < len) × (len ≤ 4) × (lead < 32) }
     ensures same { char_from result ≡ scalar len low (tails (len - 1) lead rest.now) }

@@ -1,8 +1,6 @@
 -- Fields of elementary kinds, written.
 -- Assumes nothing.
 use Rattle.std.proofs.Common.{◌≡◌, ◌∙◌, ap, List, ◌++◌, append_assoc, ℕ, ◌+◌, arith, length, length-append}
-use Rattle.model.specs.declared.Mark.{Mark}
-use Rattle.model.specs.Mark.{mark_number}
 use Rattle.model.specs.Layout.{little_endian, record_of}
 use Rattle.model.specs.Record.{encode_elementary, encode_suffixes, encode_name, encode_field, encode_base}
 use Rattle.layout.specs.Buffer.{put, front_of}
@@ -13,11 +11,11 @@ use Rattle.value.specs.Run.{SuffixesPut, LeafAt, LeafPut}
 use Rattle.value.proofs.Suffixing.{suffixed_unique}
 
 -- front, name, base and suffixes, each behind the one before, are the record of a field
-module _ (r : Run) (m : Mark) (nm b : List ℕ) (a : LeafAt r nm b) where
-  pub leaf-puts : (n mark : ℕ) (b₁ b₂ b₃ b₄ : List ℕ) → n ≡ length (encode_elementary 4 (to_elementary r.base)) → mark ≡ mark_number m → b₁ ≡ put 0 (front_of mark (length nm) (n + r.len)) b
-      → b₂ ≡ put 14 nm b₁ → b₃ ≡ put (14 + length nm) (encode_elementary 4 (to_elementary r.base)) b₂ → SuffixesPut r.suffixes.now (14 + length nm + n) b₃ b₄ → LeafPut r m nm b b₄
+module _ (r : Run) (mark : ℕ) (nm b : List ℕ) (a : LeafAt r nm b) where
+  pub leaf-puts : (n : ℕ) (b₁ b₂ b₃ b₄ : List ℕ) → n ≡ length (encode_elementary 4 (to_elementary r.base)) → b₁ ≡ put 0 (front_of mark (length nm) (n + r.len)) b
+      → b₂ ≡ put 14 nm b₁ → b₃ ≡ put (14 + length nm) (encode_elementary 4 (to_elementary r.base)) b₂ → SuffixesPut r.suffixes.now (14 + length nm + n) b₃ b₄ → LeafPut r mark nm b b₄
   unfolding encode_field encode_name encode_base
-  leaf-puts n mark b₁ b₂ b₃ b₄ l k e f g h ss i =
+  leaf-puts n b₁ b₂ b₃ b₄ l e f g h ss i =
       let E : List ℕ = encode_elementary 4 (to_elementary r.base) in
       let S : List ℕ = encode_suffixes 4 ss in
       let F : List ℕ = front_of mark (length nm) (n + r.len) in
@@ -30,4 +28,4 @@ module _ (r : Run) (m : Mark) (nm b : List ℕ) (a : LeafAt r nm b) where
       let p₃ = put_then 0 (14 + length nm + n) ((F ++ nm) ++ E) S b b₃ b₄ p₂ (h ss i) (omega arith) (omega (arith, a.room)) in
       let q : length (E ++ S) ≡ n + r.len = omega (arith, length-append E S) in
       let v : record_of 4 0x10 (little_endian 2 mark ++ (record_of 4 0x11 nm ++ (E ++ S))) ≡ ((F ++ nm) ++ E) ++ S = field_record mark nm (E ++ S) ∙ rw (q, append_assoc, append_assoc) in
-      p₃ ∙ rw (← k, v)
+      p₃ ∙ rw v

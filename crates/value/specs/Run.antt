@@ -3,9 +3,7 @@
 use Rattle.std.specs.Prelude.{◌≡◌, List, [], ◌∷◌, ◌++◌, ℕ, ◌+◌, ◌*◌, ◌-◌, ◌≤◌, length, drop, Option, Some, Result, Ok, Err, MatchOption}
 use Rattle.kinds.specs.Bytes.{lbracket, rbracket}
 use Rattle.kinds.specs.Kind.{Suffix}
-use Rattle.model.specs.declared.Mark.{Mark}
 use Rattle.model.specs.declared.Refusal.{Refusal}
-use Rattle.model.specs.Mark.{mark_number}
 use Rattle.model.specs.KindText.{ok, err, inside, from_str}
 use Rattle.model.specs.Record.{encode_elementary, encode_suffixes, encode_field}
 use Rattle.model.specs.Tree.{field, elementary}
@@ -54,5 +52,5 @@ pub record LeafAt (r : Run) (nm b : List ℕ) : Type 0 where
   pub room : 14 + length nm + length (encode_elementary 4 (to_elementary r.base)) + r.len ≤ length b
   pub small : length nm + r.len ≤ 65536
 
-abbrev pub LeafPut : Run → Mark → List ℕ → List ℕ → List ℕ → Type 0
-LeafPut r mark nm b b₁ = (ss : List Suffix) → Suffixed ss r.suffixes.now → b₁ ≡ put 0 (encode_field 4 (field (mark_number mark) nm (elementary (to_elementary r.base)) ss)) b
+abbrev pub LeafPut : Run → ℕ → List ℕ → List ℕ → List ℕ → Type 0
+LeafPut r mark nm b b₁ = (ss : List Suffix) → Suffixed ss r.suffixes.now → b₁ ≡ put 0 (encode_field 4 (field mark nm (elementary (to_elementary r.base)) ss)) b

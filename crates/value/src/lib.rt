@@ -16,7 +16,7 @@ use layout::{
     ADDRESS, BOOL, BYTES, BYTES_N, FIELD_FRONT, FUNCTION_KIND, HEAD, INT, NUMBERED, OPEN, SIZED,
     STRING, UINT,
 };
-use model::{Mark, Refusal};
+use model::Refusal;
 use sizes::{BitWidth, ByteLength};
 use std::marker::Model;
 
@@ -318,20 +318,14 @@ impl Run<'_> {
         FIELD_FRONT + name.len() + self.base.record_length() + self.len
     }
 
-    // Writes the record of a field of this kind.
-    pub fn write_field(&self, mark: Mark, name: &[u8], out: &mut [u8])
+    // Writes the record of a field of this kind, with the number of its mark.
+    pub fn write_field(&self, mark: usize, name: &[u8], out: &mut [u8])
         requires { LeafAt self.now name.now out.old }
         ensures { LeafPut self.now mark name.now out.old out.new }
     {
         let kind_at = FIELD_FRONT + name.len();
         let base_length = self.base.record_length();
-        layout::front(
-            out,
-            0,
-            usize::from(mark),
-            name.len(),
-            base_length + self.len,
-        );
+        layout::front(out, 0, mark, name.len(), base_length + self.len);
         layout::copy(out, FIELD_FRONT, name);
         self.base.write(out, kind_at);
         write_suffixes(self.suffixes, out, kind_at + base_length);

@@ -1,12 +1,12 @@
 -- Words and strings in the data.
 -- Assumes nothing.
 use mathlib.Core.Path.{◌≡◌, refl, sym, ◌∙◌, ap}
-use mathlib.Core.Bool.{Bool, true, false, ◌&&◌, and-false}
+use mathlib.Core.Bool.{Bool, true, false, ◌&&◌, and-true, and-false}
 use mathlib.Core.List.{List, [], ◌∷◌}
 use Rattle.std.specs.Prelude.{Option, None, Some}
 use Rattle.std.proofs.Common.{Fits, w8}
 use Rattle.std.specs.Bool.{then_some}
-use Rattle.std.specs.List.{list_all}
+use Rattle.std.specs.List.{fold}
 use Prim.Native.Nat.{ℕ, zero, suc, ◌+◌, ◌*◌, ◌-◌, ◌/◌, ◌%◌, ◌^◌, ◌≤◌, ◌<◌}
 use native.Mathlib.Nat.{sub-zero, lt_of_lt_of_le, pow-le-pow_right}
 use native.Mathlib.Numerals.{add-one}
@@ -62,9 +62,14 @@ number_is d at n v f room small e =
 
 -- Padding.
 
-pub every : {A : Type 0} (p : A → Bool) (xs : List A) → list_all p xs ≡ all p xs
-every p [] = refl
-every p (x ∷ xs) = ap (λ b. p x && b) (every p xs)
+-- a test of each, without an early exit
+folded : (p : ℕ → Bool) (b : Bool) (xs : List ℕ) → fold (λ a x. a && p x) b xs ≡ (b && all p xs)
+folded p b [] = sym (and-true b)
+folded p true (x ∷ xs) = folded p (p x) xs
+folded p false (x ∷ xs) = folded p false xs
+
+pub all_folded : (p : ℕ → Bool) (xs : List ℕ) (r : Bool) → r ≡ fold (λ a x. a && p x) true xs → r ≡ all p xs
+all_folded p xs r e = e ∙ folded p true xs
 
 drop-take : (p n : ℕ) (s : List ℕ) → p ≤ n → drop p (take n s) ≡ take (n - p) (drop p s)
 drop-take zero n s h = ap (λ m. take m s) (sym (sub-zero n))

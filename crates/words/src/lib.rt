@@ -70,11 +70,11 @@ pub fn is_number(d: &[u8], at: usize, n: usize) -> bool
     has(d, at, WORD) && number_at(d, at) == n
 }
 
-// Whether every byte of a part is c.
+// Whether every byte of a part is c: no early exit, so that several are looked at in one step.
 fn all_are(t: &[u8], c: u8) -> bool
     ensures { result ≡ all_are c t.now }
 {
-    t.iter().all(|b| *b == c)
+    t.iter().fold(true, |same, b| same & (*b == c))
 }
 
 // A word whose bytes from one of them up to another are all c.
