@@ -19,7 +19,7 @@ use Rattle.model.proofs.Scans.{part-rest}
 use Rattle.record.specs.declared.Piece.{Piece}
 use Rattle.record.specs.declared.Fronted.{Fronted}
 use Rattle.record.specs.Parts.{taken, PieceIs, FrontedIs, MarkIs, FrontIs}
-use Rattle.record.specs.Says.{NameIs}
+use Rattle.record.specs.Says.{NameIs, NamePlaced}
 use Rattle.record.specs.Texts.{is_mark_at, kind_from, field_text_from}
 use Rattle.record.proofs.Equations.{field-short, field-named, named_by}
 use Rattle.record.proofs.Names.{mark-over}
@@ -100,4 +100,7 @@ module _ (b : List ℕ) where
       name-bad e f = there f ∙ rw (y, spelled, e)
 
       pub name-is : w ≡ true → NameIs b (Some n)
-      name-is e = (λ f. there f ∙ rw (y, spelled, e), p.covers, piece-stands b n p, rest-stands b n p)
+      name-is e = (λ f. there f ∙ rw (y, spelled, e), p.covers)
+
+      pub name-placed : w ≡ true → NamePlaced b (Some n)
+      name-placed e = (name-is e, piece-stands b n p, rest-stands b n p)

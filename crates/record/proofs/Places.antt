@@ -19,7 +19,7 @@ use Rattle.record.specs.declared.Listed.{Listed}
 use Rattle.record.specs.declared.Checked.{Checked}
 use Rattle.record.specs.declared.Checked.TheVariants as checked
 use Rattle.record.specs.Parts.{taken, PieceIs, FrontedIs, FrontIs, StandsIn}
-use Rattle.record.specs.Says.{PartsStand, NameIs, ListIs}
+use Rattle.record.specs.Says.{PartsStand, NamePlaced, ListPlaced}
 use Rattle.record.proofs.Standing.{piece-headed}
 
 -- the body of a piece stands behind its head
@@ -94,19 +94,19 @@ module _ (b : List ℕ) where
     pub numbered-part : (p : List ℕ) → StandsIn t.rest.now p → StandsIn b p
     numbered-part p = stands-through b t.rest.now p fronted-stands
 
-    pub numbered-list : (sort : Sort) (l : Listed) → ListIs sort t.rest.now (Some l) → StandsIn b l.fields.bytes.now
-    numbered-list sort l j = numbered-part l.fields.bytes.now j.listed
+    pub numbered-list : (sort : Sort) (l : Listed) → ListPlaced sort t.rest.now (Some l) → StandsIn b l.fields.bytes.now
+    numbered-list sort l j = numbered-part l.fields.bytes.now j.1
 
-  module _ (n : Piece) (i : NameIs b (Some n)) where
+  module _ (n : Piece) (i : NamePlaced b (Some n)) where
     pub name-stands : StandsIn b n.body.now
-    name-stands = i.2
+    name-stands = i.1
 
-    module _ (sort : Sort) (l : Listed) (j : ListIs sort n.rest.now (Some l)) where
+    module _ (sort : Sort) (l : Listed) (j : ListPlaced sort n.rest.now (Some l)) where
       pub inputs-stand : StandsIn b l.fields.bytes.now
-      inputs-stand = stands-through b n.rest.now l.fields.bytes.now i.3 j.listed
+      inputs-stand = stands-through b n.rest.now l.fields.bytes.now i.2 j.1
 
-      pub outputs-stand : (u : Listed) → ListIs sort l.rest.now (Some u) → StandsIn b u.fields.bytes.now
-      outputs-stand u k = stands-through b n.rest.now u.fields.bytes.now i.3 (stands-through n.rest.now l.rest.now u.fields.bytes.now j.behind k.listed)
+      pub outputs-stand : (u : Listed) → ListPlaced sort l.rest.now (Some u) → StandsIn b u.fields.bytes.now
+      outputs-stand u k = stands-through b n.rest.now u.fields.bytes.now i.2 (stands-through n.rest.now l.rest.now u.fields.bytes.now j.2 k.1)
 
   module _ (sort : Sort) (n : Piece) (i : FrontIs sort b (Some n)) where
     front-part : (p : List ℕ) → StandsIn (drop 2 b) p → StandsIn b p

@@ -22,7 +22,7 @@ use Rattle.record.specs.declared.Fronted.{Fronted}
 use Rattle.record.specs.declared.Listed.{Listed}
 use Rattle.record.specs.declared.Checked.{Checked}
 use Rattle.record.specs.Parts.{taken, PieceIs, FrontedIs}
-use Rattle.record.specs.Says.{Says, FunctionSaid, ConstructorSaid, EventSaid, ErrorSaid, NameIs, ListIs}
+use Rattle.record.specs.Says.{Says, FunctionSaid, ConstructorSaid, EventSaid, ErrorSaid, NameIs, ListIs, ListPlaced}
 use Rattle.record.specs.Texts.{size, fields_from, tuple_text_from}
 use Rattle.record.proofs.Places.{piece-stands, rest-stands}
 
@@ -67,9 +67,10 @@ module _ (sort : Sort) (b : List ℕ) where
             goes = λ f. listed f ∙ rw (e, v);
             said = λ s. record { same = rw u e; long = same_Some _ _ q; small = rw u m; short = rw u (omega (arith, p.covers, s)) };
             less = rw v (omega (arith, p.covers));
-            listed = rw u (piece-stands b n p);
-            behind = rw v (rest-stands b n p);
           }
+
+      pub list-placed : (l : Listed) → l.fields.bytes.now ≡ n.body.now → l.rest.now ≡ n.rest.now → Some l.fields.text ≡ size (tuple_text_from sort 32 n.body.now) → l.fields.text ≤ 2 * length n.body.now + 2 → ListPlaced sort b (Some l)
+      list-placed l u v h m = (list-is l u v h m, rw u (piece-stands b n p), rw v (rest-stands b n p))
 
 -- a number in front, and the end
 module _ (b : List ℕ) (f : ℕ → List ℕ → Option Declaration) where

@@ -8,7 +8,7 @@ ghost use Rattle.model.specs.declared.Sort.TheVariants.{Plain};
 ghost use Rattle.model.specs.Mark.{mark_number};
 ghost use Rattle.model.specs.Record.{is_field_name, decode_field, function_from, constructor_from, event_from, error_from, decode, decode_lone, longest_record};
 ghost use Rattle.record.specs.Parts.{PieceIs, Headed, FrontedIs, MarkIs, FrontIs};
-ghost use Rattle.record.specs.Says.{Says, PartsStand, NameIs, ListIs};
+ghost use Rattle.record.specs.Says.{Says, PartsStand, NamePlaced, ListPlaced};
 ghost use Rattle.record.specs.Texts.{size, AtMost, located_from, is_free, is_mark_at, elementary_from, suffix_from, suffixes_from, base_text_from, kind_from, field_text_from, tuple_text_from};
 
 use layout::{
@@ -387,7 +387,7 @@ pub enum Checked<'a> {
 
 // The name that bytes begin with.
 fn name(b: &[u8]) -> Option<Piece<'_>>
-    ensures { NameIs b.now result }
+    ensures { NamePlaced b.now result }
 {
     let name = Piece::parse(b)?;
     if name.kind == NAME && is_word(&b[HEAD..], name.body.len()) {
@@ -406,7 +406,7 @@ struct Listed<'a> {
 
 // The list of a sort that bytes begin with.
 fn list(b: &[u8], sort: Sort) -> Option<Listed<'_>>
-    ensures { ListIs sort b.now result }
+    ensures { ListPlaced sort b.now result }
 {
     let list = Piece::parse(b)?;
     if list.kind != LIST {

@@ -8,7 +8,7 @@ pub returns-clause-says : goal.returns-clause-says
 returns-clause-says c =
     let stated = c.in_ok-stated.ensures in
     let inputs = c.in_ok-inputs.ensures in
-    (function-is _ c.in_ok-stated.stated stated c.in_ok-name.name c.in_ok-name.ensures c.in_ok-inputs.inputs inputs c.in_ok-outputs.outputs c.in_ok-outputs.ensures c.requires c.if-stated-gt-PAYABLE.false (search rules), refl)
+    (function-is _ c.in_ok-stated.stated stated c.in_ok-name.name c.in_ok-name.ensures.0 c.in_ok-inputs.inputs inputs.0 c.in_ok-outputs.outputs c.in_ok-outputs.ensures.0 c.requires c.if-stated-gt-PAYABLE.false (search rules), refl)
 
 pub returns-clause-within : goal.returns-clause-within
 returns-clause-within c =
