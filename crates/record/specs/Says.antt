@@ -107,7 +107,7 @@ abbrev pub NameIs : List ℕ → Option Piece → Type 0
 NameIs b None = (f : List ℕ → List ℕ → Option Declaration) → name_from 4 b f ≡ None
 NameIs b (Some p) = ((f : List ℕ → List ℕ → Option Declaration) → name_from 4 b f ≡ f p.body.now p.rest.now) × Covers b (Some p)
 
--- and it and what is behind it stand in b
+-- the name that b begins with; its bytes, and those behind it, stand at places of b
 abbrev pub NamePlaced : List ℕ → Option Piece → Type 0
 NamePlaced b None = NameIs b None
 NamePlaced b (Some p) = NameIs b (Some p) × StandsIn b p.body.now × StandsIn b p.rest.now
@@ -123,7 +123,7 @@ abbrev pub ListIs : Sort → List ℕ → Option Listed → Type 0
 ListIs sort b None = (f : Fields → List ℕ → Option Declaration) → list_from 4 sort b f ≡ None
 ListIs sort b (Some l) = ListRead sort b l
 
--- and it and what is behind it stand in b
+-- the list of a sort that b begins with; its bytes, and those behind it, stand at places of b
 abbrev pub ListPlaced : Sort → List ℕ → Option Listed → Type 0
 ListPlaced sort b None = ListIs sort b None
 ListPlaced sort b (Some l) = ListIs sort b (Some l) × StandsIn b l.fields.bytes.now × StandsIn b l.rest.now
